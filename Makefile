@@ -1,0 +1,65 @@
+# Tests, run example and benchmark over the proved crates. Everything built goes to target/.
+#
+#   make test        the whole gate: proofs, C test, second program (.ci/run)
+#   make run         the soundings P1 and P9 through the C edge
+#   make edge-test   the C test alone; last line 'edge: N passed, M failed'
+#   make second      the independent second program; last line 'second: N passed, M failed'
+#   make worst       look for key lists on which model choice is slow, for a minute
+#   make bench       the time each function of the C edge takes
+#   make clean       remove target/
+
+CC = gcc
+CFLAGS = -std=c11 -Wall -Wextra -Werror -Iinclude
+RUSTC = rustc
+RUSTFLAGS = -O --edition 2021
+EDGE_DIR = target/staticlib
+EDGE = $(EDGE_DIR)/libedge.a
+LINK_EDGE = -L native=$(EDGE_DIR) -l static=edge
+PROVED = crates.txt $(shell find crates -name '*.rt' -o -name '*.antt')
+
+need = @command -v $(1) >/dev/null || { echo "$(1) is missing: $(2)" >&2; exit 1; }
+need_cc = $(call need,$(CC),install a C11 compiler or name yours with 'make CC=..')
+need_rustc = $(call need,$(RUSTC),install Rust or name its compiler with 'make RUSTC=..')
+need_rt = $(call need,rt,install the Rattle kit and put its rt on the PATH)
+
+.PHONY: test run edge-test second second-program worst bench clean
+
+test:
+	@test -x .ci/run || { echo ".ci/run is missing: take it from the repository again" >&2; exit 1; }
+	@.ci/run
+
+run: $(EDGE)
+	$(need_cc)
+	@mkdir -p target/test
+	@$(CC) $(CFLAGS) tests/show.c $(EDGE) -o target/test/show
+	@target/test/show
+
+edge-test: $(EDGE)
+	$(need_cc)
+	@mkdir -p target/test
+	@$(CC) $(CFLAGS) tests/edge.c $(EDGE) -o target/test/edge
+	@target/test/edge
+
+second: second-program
+	@target/second/second
+
+worst: second-program
+	@target/second/second --worst
+
+second-program: $(EDGE)
+	$(need_rustc)
+	@mkdir -p target/second
+	@$(RUSTC) $(RUSTFLAGS) tests/second/main.rs $(LINK_EDGE) -o target/second/second
+
+bench: $(EDGE)
+	$(need_rustc)
+	@mkdir -p target/bench
+	@$(RUSTC) $(RUSTFLAGS) bench/leaves.rs $(LINK_EDGE) -o target/bench/leaves
+	@target/bench/leaves
+
+$(EDGE): $(PROVED)
+	$(need_rt)
+	@rt staticlib edge >&2
+
+clean:
+	rm -rf target

@@ -1,0 +1,5 @@
+pub mod Bytes
+pub mod Parts
+pub mod Quotients
+pub mod Risings
+pub mod Tests

@@ -1,0 +1,4 @@
+pub mod Answers
+pub mod Bytes
+pub mod Keys
+pub mod Pick

@@ -1,0 +1,4 @@
+pub mod Choice
+pub mod Groups
+pub mod Height
+pub mod Slots
