@@ -1,8 +1,8 @@
 -- From a computed test to a fact and back: splitting on a test or on the order of two numbers, and what `pick` gives once
 -- its test is known. Assumes nothing.
-use mathlib.Core.Bool.{Bool, true, false}
+use mathlib.Core.Bool.{Bool, true, false, _&&_}
 use mathlib.Core.Logic.{_⊎_, inl, inr, ⊎-elim}
-use mathlib.Core.Path.{_≡_, refl}
+use mathlib.Core.Path.{_≡_, refl, sym}
 use Prim.Native.Nat.{ℕ, zero, suc, zero-le, suc-le-suc, _<_, _≤_}
 use native.Mathlib.Omega.{arith}
 use Rattle.laws.specs.Pick.{pick}
@@ -35,3 +35,16 @@ pub le-or-lt : (a b : ℕ) → (a ≤ b) ⊎ (b < a)
 le-or-lt zero b = inl zero-le
 le-or-lt (suc a) zero = inr (suc-le-suc zero-le)
 le-or-lt (suc a) (suc b) = ⊎-elim (λ p. inl (suc-le-suc p)) (λ q. inr (suc-le-suc q)) (le-or-lt a b)
+
+-- two tests together
+pub and-both : (a b : Bool) → (a && b) ≡ true → (a ≡ true) × (b ≡ true)
+and-both true b e = (refl, e)
+and-both false b e = absurd (true-not-false (sym e))
+
+pub and-true : {a b : Bool} → a ≡ true → b ≡ true → (a && b) ≡ true
+and-true p q = rw (p, q)
+
+-- a test that cannot hold fails
+pub fails : (b : Bool) → (b ≡ true → ⊥) → false ≡ b
+fails true h = absurd (h refl)
+fails false h = refl

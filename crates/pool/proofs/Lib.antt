@@ -1,0 +1,8 @@
+pub mod AfterStores
+pub mod Nodes
+pub mod RecordStores
+pub mod RunStores
+mod Samples
+pub mod Sets
+pub mod SlotStores
+pub mod Slots

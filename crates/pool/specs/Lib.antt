@@ -1,0 +1,3 @@
+pub mod Memory
+pub mod Reading
+pub mod Writing
