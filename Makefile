@@ -4,6 +4,7 @@
 #   make run         the soundings P1 and P9 through the C edge
 #   make edge-test   the C test alone; last line 'edge: N passed, M failed'
 #   make second      the independent second program; last line 'second: N passed, M failed'
+#   make second-desk the second program's store against the desk library; last line 'desk: N passed, M failed'
 #   make worst       look for key lists on which model choice is slow, for a minute
 #   make bench       the time each function of the C edge takes
 #   make clean       remove target/
@@ -15,6 +16,10 @@ RUSTFLAGS = -O --edition 2021
 EDGE_DIR = target/staticlib
 EDGE = $(EDGE_DIR)/libedge.a
 LINK_EDGE = -L native=$(EDGE_DIR) -l static=edge
+DESK = $(EDGE_DIR)/libdesk.a
+LINK_DESK = -L native=$(EDGE_DIR) -l static=desk
+# the calls that the desk library has today
+DESK_CALLS = unpack load lookup replace delete
 PROVED = crates.txt $(shell find crates -name '*.rt' -o -name '*.antt')
 
 need = @command -v $(1) >/dev/null || { echo "$(1) is missing: $(2)" >&2; exit 1; }
@@ -22,7 +27,7 @@ need_cc = $(call need,$(CC),install a C11 compiler or name yours with 'make CC=.
 need_rustc = $(call need,$(RUSTC),install Rust or name its compiler with 'make RUSTC=..')
 need_rt = $(call need,rt,install the Rattle kit and put its rt on the PATH)
 
-.PHONY: test run edge-test second second-program worst bench clean
+.PHONY: test run edge-test second second-program second-desk worst bench clean
 
 test:
 	@test -x .ci/run || { echo ".ci/run is missing: take it from the repository again" >&2; exit 1; }
@@ -43,6 +48,12 @@ edge-test: $(EDGE)
 second: second-program
 	@target/second/second
 
+second-desk: $(DESK)
+	$(need_rustc)
+	@mkdir -p target/second
+	@$(RUSTC) $(RUSTFLAGS) $(foreach call,$(DESK_CALLS),--cfg 'desk="$(call)"') tests/second/desk_main.rs $(LINK_DESK) -o target/second/desk
+	@target/second/desk
+
 worst: second-program
 	@target/second/second --worst
 
@@ -60,6 +71,10 @@ bench: $(EDGE)
 $(EDGE): $(PROVED)
 	$(need_rt)
 	@rt staticlib edge >&2
+
+$(DESK): $(PROVED)
+	$(need_rt)
+	@rt staticlib desk >&2
 
 clean:
 	rm -rf target

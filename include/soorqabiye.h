@@ -38,7 +38,12 @@ extern "C" {
 #define SOORQABIYE_DONE 0
 #define SOORQABIYE_SIZE 1
 #define SOORQABIYE_RANGE 2
+#define SOORQABIYE_REVERSED 3 /* 3 and 5 to 8 are answered only in soorqabiye_desk.h */
 #define SOORQABIYE_NOT_RISING 4
+#define SOORQABIYE_HELD 5
+#define SOORQABIYE_NOT_HELD 6
+#define SOORQABIYE_FULL 7
+#define SOORQABIYE_NO_ROOM 8
 #define SOORQABIYE_DAMAGE 9
 
 /* Answer of soorqabiye_pack. */

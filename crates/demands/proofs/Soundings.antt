@@ -1,12 +1,18 @@
 -- Every row of document 01's table holds, by computation of the definitions that the public functions are proved to meet.
 -- Assumes nothing.
 use mathlib.Core.Path.{refl}
+use Rattle.build.specs.Building.{lowestRecord, lowestSlots, placeNode, payloadsTo, fillSlot, fillSlots, nodeOn, nodeWith, build}
+use Rattle.marks.specs.Used.{usedAt, markAt, markRun, firstFrom, firstUnused, freeRun, lowestFrom, lowestRun}
 use Rattle.model.specs.Choice.{slotsFor, countAt, spreadBelow, spread, modelAt, leastFrom, tOf, emptyModel, modelOf, choiceOf}
+use Rattle.model.specs.Groups.{keysTo}
 use Rattle.model.specs.Slots.{slotOf}
+use Rattle.pool.specs.Writing.{putNode, putData, putChild, zeroRun}
 use Rattle.sounding.specs.Studio.{depthInRange, numberInRange, keyOf, packOf}
+use Rattle.store.specs.Handles.{limitsHold, poolsAre}
+use Rattle.store.specs.Loading.{faultFrom, firstFault, emptied, loadFits, loadBuilt, loadTree, loadList, loadOf}
 use Rattle.demands.specs.Soundings.{All, table}
 
 pub soundings : All table
-unfolding slotsFor countAt spreadBelow spread modelAt leastFrom tOf emptyModel modelOf choiceOf slotOf depthInRange numberInRange keyOf packOf
+unfolding slotsFor countAt spreadBelow spread modelAt leastFrom tOf emptyModel modelOf choiceOf slotOf keysTo depthInRange numberInRange keyOf packOf usedAt markAt markRun firstFrom firstUnused freeRun lowestFrom lowestRun putNode putData putChild zeroRun lowestRecord lowestSlots placeNode payloadsTo fillSlot fillSlots nodeOn nodeWith build limitsHold poolsAre faultFrom firstFault emptied loadFits loadBuilt loadTree loadList loadOf
 soundings =
-    ((refl, refl), ((refl, refl), ((refl, refl), ((refl, refl), ((refl, refl), ((refl, refl), ((refl, refl), ((refl, refl), (refl, (refl, (refl, tt)))))))))))
+    ((refl, refl), ((refl, refl), ((refl, refl), ((refl, refl), ((refl, refl), ((refl, refl), ((refl, refl), ((refl, refl), (refl, (refl, (refl, (refl, (refl, (refl, tt))))))))))))))

@@ -2,18 +2,26 @@
 -- that every row holds is proofs/Soundings. Later issues add rows to this table.
 use mathlib.Core.List.{List, [], _∷_, map}
 use mathlib.Core.Path.{_≡_}
-use Prim.Native.Nat.{ℕ, _-_, _^_}
+use Prim.Native.Nat.{ℕ, _+_, _-_, _*_, _^_}
+use lib.ListN.{replicate}
 use lib.IntN.{ℤ, pos, negℤ}
-use Rattle.laws.specs.Answers.{Answer, done, refused, outOfRange}
+use Rattle.laws.specs.Answers.{Answer, done, refused, refusedWith, outOfRange, notRising}
 use Rattle.model.specs.Choice.{choiceOf}
 use Rattle.model.specs.Slots.{valueOf, slotOf}
 use Rattle.model.specs.declared.Choice.{Choice}
+use Rattle.pool.specs.Memory.{Mem, mem}
 use Rattle.sounding.specs.Studio.{packOf}
+use Rattle.store.specs.Calls.{Call, call}
+use Rattle.store.specs.Handles.{noHandle}
+use Rattle.store.specs.Loading.{loadOf}
+use Rattle.store.specs.declared.Handle.{Handle}
 
--- a row: keys with the model chosen over them (L, T, lo, W) and the slot of each key; or a depth and a number with the answer
+-- a row: keys with the model chosen over them (L, T, lo, W) and the slot of each key; a depth and a number with the answer; a load
+-- of keys with payloads, of some capacity into some memory, with its answer, handle and every word left
 pub data Row : Type 0 where
   node : (keys : List ℕ) → (l t lo w : ℕ) → (slots : List ℕ) → Row
   key : (depth : ℤ) → (number : ℕ) → Answer ℕ → Row
+  loads : (capacity : ℕ) → (keys payloads : List ℕ) → Mem → Call → Row
 
 abbrev pub choice : ℕ → ℕ → ℕ → ℕ → Choice
 choice l t lo w = record { model = record { lo = lo; w = w; l = l }; t = t }
@@ -21,10 +29,31 @@ choice l t lo w = record { model = record { lo = lo; w = w; l = l }; t = t }
 abbrev pub Holds : Row → Type 0
 Holds (node ks l t lo w ss) = (choiceOf ks ≡ choice l t lo w) × (map (λ (k : ℕ). slotOf (choiceOf ks .model) (valueOf k)) ks ≡ ss)
 Holds (key d n a) = packOf d n ≡ a
+Holds (loads c ks ps m x) = loadOf c ks ps m ≡ x
 
 abbrev pub All : List Row → Type 0
 All [] = Unit
 All (r ∷ rs) = Holds r × All rs
+
+-- 3 records and 20 slots full of old words, for P4; and 1 record and 64 slots, for a load of nothing
+abbrev pub oldPools : Mem
+oldPools = mem (replicate 24 5) (replicate 40 7) (11 ∷ [])
+
+abbrev pub emptyPools : Mem
+emptyPools = mem (replicate 8 5) (replicate 128 7) (1 ∷ 0 ∷ [])
+
+-- P4's store: the root at record 0 and slots 0 to 11, its children at runs 12 and 16, their keys at slots 1 and 2
+abbrev pub p4Pools : Mem
+p4Pools =
+    mem
+    (101 ∷ 2 ∷ 12 ∷ 0 ∷ 6 ∷ 6 ∷ 0 ∷ 0 ∷ 0 ∷ 101 ∷ 4 ∷ 12 ∷ 2 ∷ 2 ∷ 0 ∷ 0 ∷ 10000 ∷ 10001 ∷ 4 ∷ 16 ∷ 2 ∷ 2 ∷ 0 ∷ 0 ∷ [])
+    ((2 * 2 ^ 48 + 1) ∷ 0 ∷ (2 ^ 48 + 101) ∷ 3 ∷ 0 ∷ 0 ∷ 0 ∷ 0 ∷ 0 ∷ 0 ∷ 0 ∷ 0 ∷ (2 ^ 48 + 102) ∷ 4 ∷ 0 ∷ 0 ∷ 0 ∷ 0 ∷ 0 ∷ 0 ∷ 0 ∷ 0 ∷ (2 * 2 ^ 48 + 2) ∷ 0
+    ∷ 0 ∷ 0 ∷ (2 ^ 48 + 0) ∷ 1 ∷ (2 ^ 48 + 100) ∷ 2 ∷ 0 ∷ 0
+    ∷ 0 ∷ 0 ∷ (2 ^ 48 + 10000) ∷ 5 ∷ (2 ^ 48 + 20000) ∷ 6 ∷ 0 ∷ 0 ∷ [])
+    ((2 ^ 23 - 1) ∷ [])
+
+abbrev pub handle : ℕ → ℕ → ℕ → ℕ → ℕ → Handle
+handle root count capacity records slots = record { root = root; count = count; capacity = capacity; records = records; slots = slots }
 
 abbrev pub table : List Row
 table =
@@ -41,9 +70,16 @@ table =
     -- P5, P6
     ∷ node (7 ∷ 8 ∷ []) 4 0 7 2 (1 ∷ 2 ∷ [])
     ∷ node (0 ∷ (2 ^ 48 - 1) ∷ []) 4 0 0 (2 ^ 48) (1 ∷ 2 ∷ [])
+    -- P4's places
+    ∷ loads 6 (0 ∷ 100 ∷ 101 ∷ 102 ∷ 10000 ∷ 20000 ∷ []) (1 ∷ 2 ∷ 3 ∷ 4 ∷ 5 ∷ 6 ∷ []) oldPools (call (done []) (handle 0 6 6 3 20) p4Pools)
     -- P9
     ∷ key (negℤ (pos 150)) 7 (done (5328443801607 ∷ []))
     -- P10
     ∷ key (negℤ (pos 20001)) 0 (refused outOfRange)
     ∷ key (negℤ (pos 20000)) 0 (done (0 ∷ []))
+    -- P11
+    ∷ loads 2 (4 ∷ 4 ∷ []) (1 ∷ 2 ∷ []) oldPools (call (refusedWith notRising (1 ∷ [])) noHandle oldPools)
+    -- P12's load of nothing
+    ∷ loads 1 [] [] emptyPools
+    (call (done []) (handle 0 0 1 1 64) (mem (0 ∷ (2 ^ 48) ∷ 64 ∷ 0 ∷ 0 ∷ 0 ∷ 0 ∷ 0 ∷ []) (replicate 128 0) ((2 ^ 64 - 1) ∷ 1 ∷ [])))
     ∷ []

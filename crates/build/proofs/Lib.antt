@@ -1,0 +1,12 @@
+pub mod Counting
+pub mod Filter
+pub mod Heights
+pub mod Kept
+pub mod Level
+pub mod NodeSizes
+pub mod Places
+pub mod Releasing
+pub mod Rooms
+pub mod Samples
+pub mod Turns
+pub mod Undoing

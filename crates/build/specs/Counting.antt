@@ -1,0 +1,31 @@
+-- What counting a build's needs gives: the numbers of nodes and slots and the length of the longest path, and the L of every
+-- node written into a list as far as that list goes. Definitions only.
+use mathlib.Core.List.{List}
+use mathlib.Core.Path.{_≡_}
+use Prim.Native.Nat.{ℕ, _<_, _≤_}
+use lib.ListN.{length, getD}
+use lib.Seq.{sets}
+use Rattle.model.specs.Slots.{valueOf, slotOf}
+use Rattle.model.specs.declared.Model.{Model}
+use Rattle.build.specs.Sizes.{sizesOf, depthOf, total}
+use Rattle.build.specs.declared.sizes.Needs.{Needs}
+
+-- the needs of a build of at most `depth` levels
+unfoldable pub needsOf : ℕ → List ℕ → Needs
+needsOf depth ks = record {
+  nodes = length (sizesOf depth ks);
+  slots = total (sizesOf depth ks);
+  depth = depthOf depth ks;
+}
+
+-- what counting leaves: the needs, and a list with every L from place `at` on; a store past the list's end changes nothing
+pub record Counts (fuel : ℕ) (ks : List ℕ) (at : ℕ) (before after : List ℕ) (n : Needs) : Type 0 where
+  pub needs : n ≡ needsOf fuel ks
+  pub list : after ≡ sets before at (sizesOf fuel ks)
+
+-- b is past the last key that goes to the slot of key a, in a list along which slots do not fall
+pub record RunEnd (m : Model) (ks : List ℕ) (a b : ℕ) : Type 0 where
+  pub after : a < b
+  pub within : b ≤ length ks
+  pub shared : (i : ℕ) → a ≤ i → i < b → slotOf m (valueOf (getD ks i 0)) ≡ slotOf m (valueOf (getD ks a 0))
+  pub parts : b < length ks → slotOf m (valueOf (getD ks b 0)) ≡ slotOf m (valueOf (getD ks a 0)) → ⊥

@@ -1,0 +1,4 @@
+pub mod Faults
+pub mod Fitting
+pub mod Loads
+pub mod Searching

@@ -1,0 +1,4 @@
+pub mod Bands
+pub mod Calls
+pub mod Handles
+pub mod Loading

@@ -1,0 +1,5 @@
+pub mod Cursors
+pub mod Events
+pub mod Items
+pub mod Moves
+pub mod Walks
