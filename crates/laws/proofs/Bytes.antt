@@ -1,14 +1,15 @@
--- Keys in bytes: which bytes the i-th key is made of, that it is a key, and how many there are. Assumes nothing.
-use mathlib.Core.List.{List, [], _∷_}
-use mathlib.Core.Path.{_≡_, refl, sym, ap, _∙_}
-use Prim.Native.Nat.{ℕ, zero, suc, _+_, _-_, _*_, _/_, _^_, _<_, _≤_}
+-- Keys in bytes: which bytes the i-th key is made of, that it is a key, how many there are, and that a key written in its bytes
+-- reads back. Assumes nothing.
+use mathlib.Core.List.{List, [], _++_}
+use mathlib.Core.Path.{_≡_, refl, ap, _∙_}
+use Prim.Native.Nat.{ℕ, zero, suc, _+_, _*_, _/_, _^_, _<_, _≤_}
 use native.Mathlib.Omega.{arith}
-use lib.ListN.{length, getD, drop, length-drop, drop-of-length-le, List·getD-eq-default}
-use lib.Seq.{drop-cons, drop-drop, getD-drop}
+use lib.ListN.{length, getD, drop, drop-of-length-le, List·getD-eq-default}
+use lib.Seq.{drop-cons, drop-drop}
 use Rattle.laws.proofs.Tests.{le-or-lt}
 use mathlib.Core.Logic.{_⊎_, inl, inr}
-use Rattle.laws.specs.Bytes.{littleEndian, keyBytes, keysOf, keysIn}
-use Rattle.laws.specs.Keys.{keyBound, Rising}
+use Rattle.laws.specs.Bytes.{littleEndian, lowBytes, keyBytes, bytesOf, keysOf, keysIn}
+use Rattle.laws.specs.Keys.{keyBound}
 
 -- every element is a byte
 abbrev pub AreBytes : List ℕ → Type 0
@@ -50,6 +51,19 @@ pub key-small : (p : ℕ) (bs : List ℕ) → AreBytes bs → littleEndian keyBy
 key-small p bs h =
     rw (six-bytes p bs)
     (omega (arith, h p, h (p + 1), h (p + 2), h (p + 3), h (p + 4), h (p + 5)))
+
+-- a number that n bytes hold, written and read, whatever follows it
+low-bytes-read : (n k : ℕ) (rest : List ℕ) → k < 256 ^ n → littleEndian n (lowBytes n k ++ rest) ≡ k
+unfolding littleEndian lowBytes
+low-bytes-read zero k rest h = omega arith
+low-bytes-read (suc n) k rest h =
+    let lt : k / 256 < 256 ^ n = omega arith in
+    let e : littleEndian n (lowBytes n (k / 256) ++ rest) ≡ k / 256 = low-bytes-read n (k / 256) rest lt in
+    rw e (omega arith)
+
+pub key-reads-back : (k : ℕ) → k < keyBound → (rest : List ℕ) → littleEndian keyBytes (bytesOf k ++ rest) ≡ k
+unfolding bytesOf
+key-reads-back k h rest = low-bytes-read 6 k rest h
 
 pub length-keys : (n : ℕ) (bs : List ℕ) → length (keysOf n bs) ≡ n
 unfolding keysOf

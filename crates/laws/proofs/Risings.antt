@@ -1,5 +1,6 @@
 -- Rising lists and parts of them, and the search for the first place that does not rise: a list rises just when the search
--- runs past its end, and at each place what is left to search from there is the whole search. Assumes nothing.
+-- runs past its end, where it ends sooner the list falls there and rises up to there, and at each place what is left to search
+-- from there is the whole search. Assumes nothing.
 use mathlib.Core.List.{List, [], _∷_}
 use mathlib.Core.Path.{_≡_, refl, sym, _∙_}
 use Prim.Native.Nat.{ℕ, zero, suc, _+_, _-_, _<_, _≤_}
@@ -12,6 +13,10 @@ use lib.Seq.{drop-cons}
 use Rattle.laws.specs.Keys.{Rising, fallFrom, firstFall}
 use Rattle.laws.proofs.Parts.{length-part, getD-part}
 use Rattle.laws.proofs.Tests.{both}
+
+-- of the first n keys every earlier one is below every later one
+abbrev RisesTo : ℕ → List ℕ → Type 0
+RisesTo n ks = (i j : ℕ) → i < j → j < n → getD ks i 0 < getD ks j 0
 
 -- every earlier key is below every later one
 abbrev pub Rises : List ℕ → Type 0
@@ -50,12 +55,15 @@ fall-within [] = omega arith
 fall-within (k ∷ ks) = let h : fallFrom 1 k ks ≤ 1 + length ks = fall-from-within 1 k ks in omega arith
 
 -- a lower key in front
+rises-to-cons : (n p k : ℕ) (ks : List ℕ) → p < k → RisesTo n (k ∷ ks) → RisesTo (suc n) (p ∷ k ∷ ks)
+rises-to-cons n p k ks lt r zero zero a b = absurd (omega arith)
+rises-to-cons n p k ks lt r zero (suc zero) a b = lt
+rises-to-cons n p k ks lt r zero (suc (suc j)) a b = let h : k < getD ks j 0 = r 0 (suc j) (omega arith) (omega arith) in omega arith
+rises-to-cons n p k ks lt r (suc i) zero a b = absurd (omega arith)
+rises-to-cons n p k ks lt r (suc i) (suc j) a b = r i j (omega arith) (omega arith)
+
 rises-cons : (p k : ℕ) (ks : List ℕ) → p < k → Rises (k ∷ ks) → Rises (p ∷ k ∷ ks)
-rises-cons p k ks lt r zero zero a b = absurd (omega arith)
-rises-cons p k ks lt r zero (suc zero) a b = lt
-rises-cons p k ks lt r zero (suc (suc j)) a b = let h : k < getD ks j 0 = r 0 (suc j) (omega arith) (omega arith) in omega arith
-rises-cons p k ks lt r (suc i) zero a b = absurd (omega arith)
-rises-cons p k ks lt r (suc i) (suc j) a b = r i j (omega arith) (omega arith)
+rises-cons p k ks lt r = rises-to-cons (length (k ∷ ks)) p k ks lt r
 
 fall-from-rises : (i p : ℕ) (ks : List ℕ) → fallFrom i p ks ≡ i + length ks → Rises (p ∷ ks)
 unfolding fallFrom
@@ -83,6 +91,48 @@ pub rising-fall : (ks : List ℕ) → Rising ks → firstFall ks ≡ length ks
 unfolding firstFall
 rising-fall [] r = refl
 rising-fall (k ∷ ks) r = let h : fallFrom 1 k ks ≡ 1 + length ks = rises-fall-from 1 k ks (r .rises) in omega arith
+
+-- a search from i that ends before the end: n places on the key is not above its forerunner, and up to there all rise
+record Falls (i p : ℕ) (ks : List ℕ) (f : ℕ) : Type 0 where
+  n : ℕ
+  place : f ≡ i + n
+  falls : getD ks n 0 ≤ getD (p ∷ ks) n 0
+  rises : RisesTo (suc n) (p ∷ ks)
+
+fall-from-at : (i p : ℕ) (ks : List ℕ) → fallFrom i p ks < i + length ks → Falls i p ks (fallFrom i p ks)
+unfolding fallFrom
+fall-from-at i p [] h = absurd (omega arith)
+fall-from-at i p (k ∷ ks) h =
+    both (ltb p k)
+    (λ t.
+    let lt : fallFrom (i + 1) k ks < i + suc (length ks) = rw t at h in
+    let f = fall-from-at (i + 1) k ks (omega arith) in
+    rw t
+    (record {
+      n = suc (f .n);
+      place = omega (arith, f .place);
+      falls = f .falls;
+      rises = rises-to-cons (suc (f .n)) p k ks (ltb-true p k t) (f .rises);
+    }))
+    (λ t.
+    rw t
+    (record {
+      n = 0;
+      place = omega arith;
+      falls = ltb-false p k t;
+      rises = λ a b l m. absurd (omega arith);
+    }))
+
+-- what 4 promises: "place, from 0, of the first key not above its forerunner"
+pub fall-at : (ks : List ℕ) → firstFall ks < length ks
+    → (0 < firstFall ks) × (getD ks (firstFall ks) 0 ≤ getD ks (firstFall ks - 1) 0) × ((i j : ℕ) → i < j → j < firstFall ks → getD ks i 0 < getD ks j 0)
+unfolding firstFall
+fall-at [] h = absurd (omega arith)
+fall-at (k ∷ ks) h =
+    let f = fall-from-at 1 k ks (omega arith) in
+    let e : fallFrom 1 k ks ≡ suc (f .n) = omega (arith, f .place) in
+    let back : suc (f .n) - 1 ≡ f .n = omega arith in
+    rw (e, back) (omega arith, f .falls, f .rises)
 
 -- a loop over the list: i is the place reached, from 1 on
 pub fall-start : (ks : List ℕ) → 0 < length ks → fallFrom 1 (getD ks 0 0) (drop 1 ks) ≡ firstFall ks

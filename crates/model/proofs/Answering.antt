@@ -1,22 +1,24 @@
 -- The answers of the two public choices: a law for each way out of model choice, and that an answer determines the code's
 -- result, so that any two results that a contract allows coincide. Assumes nothing.
-use mathlib.Core.Bool.{true, false}
 use mathlib.Core.List.{List, [], _∷_}
-use mathlib.Core.Path.{_≡_, refl, sym, ap, _∙_}
-use Prim.Native.Nat.{ℕ, _+_, _/_, _%_, _<_, _≤_}
+use mathlib.Core.Path.{_≡_, refl, ap}
+use Prim.Native.Nat.{ℕ, _/_, _%_, _<_, _≤_}
 use native.Mathlib.Omega.{arith}
 use borrow.Author.Tests.{eq-eqb, ne-eqb, lt-ltb, le-ltb, le-leb, lt-leb}
-use lib.ListN.{length, getD}
+use lib.Dec.{eqb}
+use lib.ListN.{length}
 use Rattle.laws.proofs.Bytes.{AreBytes, length-in, keys-small}
 use Rattle.laws.proofs.Risings.{fall-within, fall-rising}
+use Rattle.laws.proofs.Tests.{both}
 use Rattle.laws.specs.Answers.{Answer, done, refused, refusedWith, wrongSizes, notRising}
-use Rattle.laws.specs.Bytes.{keyBytes, keysIn}
+use Rattle.laws.specs.Bytes.{keysIn}
 use Rattle.laws.specs.Keys.{Rising, firstFall}
 use Rattle.model.specs.Choice.{mostKeys, choiceOf, chosenValues, choiceOver, modelChoice, chosen}
-use Rattle.model.specs.Slots.{slotted}
+use Rattle.model.specs.Slots.{slotted, slotChoice}
 use Rattle.model.specs.declared.Choice.{Choice}
 use Rattle.model.specs.declared.Chosen.{Chosen}
 use Rattle.model.specs.declared.Chosen.the-variants.{Is, NotRising, WrongLength}
+use Rattle.model.specs.declared.Model.{Model}
 use Rattle.model.specs.declared.Slotted.{Slotted}
 use Rattle.model.specs.declared.Slotted.the-variants.{At, KeyOutOfRange, ModelOutOfRange}
 
@@ -25,23 +27,22 @@ module _ (bs : List ℕ) where
   unfolding modelChoice
   choice-uneven h = rw (ne-eqb (length bs % 6) 0 h)
 
-  module _ (whole : length bs % 6 ≡ 0) where
-    pub choice-many : mostKeys < length bs / 6 → refused wrongSizes ≡ modelChoice bs
-    unfolding modelChoice
-    choice-many h = rw (eq-eqb (length bs % 6) 0 whole, lt-leb (length bs / 6) mostKeys h)
+  pub choice-many : mostKeys < length bs / 6 → refused wrongSizes ≡ modelChoice bs
+  unfolding modelChoice
+  choice-many h = both (eqb (length bs % 6) 0) (λ e. rw (e, lt-leb (length bs / 6) mostKeys h)) (λ e. rw e)
 
-    module _ (few : length bs / 6 ≤ mostKeys) (f : ℕ) (e : f ≡ firstFall (keysIn bs)) where
-      pub choice-falls : f < length bs / 6 → refusedWith notRising (f ∷ []) ≡ modelChoice bs
-      unfolding modelChoice choiceOver
-      choice-falls lt =
-          let q : firstFall (keysIn bs) < length (keysIn bs) = rw (length-in bs) (omega arith) in
-          rw (eq-eqb (length bs % 6) 0 whole, le-leb (length bs / 6) mostKeys few, lt-ltb (firstFall (keysIn bs)) (length (keysIn bs)) q, e)
+  module _ (whole : length bs % 6 ≡ 0) (few : length bs / 6 ≤ mostKeys) (f : ℕ) (e : f ≡ firstFall (keysIn bs)) where
+    pub choice-falls : f < length bs / 6 → refusedWith notRising (f ∷ []) ≡ modelChoice bs
+    unfolding modelChoice choiceOver
+    choice-falls lt =
+        let q : firstFall (keysIn bs) < length (keysIn bs) = rw (length-in bs) (omega arith) in
+        rw (eq-eqb (length bs % 6) 0 whole, le-leb (length bs / 6) mostKeys few, lt-ltb (firstFall (keysIn bs)) (length (keysIn bs)) q, e)
 
-      pub choice-is : length bs / 6 ≤ f → (c : Choice) → c ≡ choiceOf (keysIn bs) → done (chosenValues c) ≡ modelChoice bs
-      unfolding modelChoice choiceOver
-      choice-is le c r =
-          let q : length (keysIn bs) ≤ firstFall (keysIn bs) = rw (length-in bs) (omega arith) in
-          rw (eq-eqb (length bs % 6) 0 whole, le-leb (length bs / 6) mostKeys few, le-ltb (firstFall (keysIn bs)) (length (keysIn bs)) q, r)
+    pub choice-is : length bs / 6 ≤ f → (c : Choice) → c ≡ choiceOf (keysIn bs) → done (chosenValues c) ≡ modelChoice bs
+    unfolding modelChoice choiceOver
+    choice-is le c r =
+        let q : length (keysIn bs) ≤ firstFall (keysIn bs) = rw (length-in bs) (omega arith) in
+        rw (eq-eqb (length bs % 6) 0 whole, le-leb (length bs / 6) mostKeys few, le-ltb (firstFall (keysIn bs)) (length (keysIn bs)) q, r)
 
   -- a list of bytes whose keys nowhere fall
   pub choice-rising : AreBytes bs → (f : ℕ) → f ≡ firstFall (keysIn bs) → length bs / 6 ≤ f → Rising (keysIn bs)
@@ -91,3 +92,10 @@ chosen-one (NotRising p) WrongLength e = let n : _≡_ {A = ℕ} 4 1 = numbers-s
 chosen-one WrongLength (Is d) e = let n : _≡_ {A = ℕ} 1 0 = numbers-same e in absurd (omega arith)
 chosen-one WrongLength (NotRising q) e = let n : _≡_ {A = ℕ} 1 4 = numbers-same e in absurd (omega arith)
 chosen-one WrongLength WrongLength e = refl
+
+-- so what the two contracts say determines what the calls return
+pub slot-choice-determined : (a b : Slotted) (k : ℕ) (m : Model) → slotted a ≡ slotChoice k m → slotted b ≡ slotChoice k m → a ≡ b
+slot-choice-determined a b k m p q = slotted-one a b (cc)
+
+pub model-choice-determined : (a b : Chosen) (bs : List ℕ) → chosen a ≡ modelChoice bs → chosen b ≡ modelChoice bs → a ≡ b
+model-choice-determined a b bs p q = chosen-one a b (cc)

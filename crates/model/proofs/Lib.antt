@@ -4,4 +4,5 @@ pub mod Groups
 pub mod Heights
 pub mod Least
 pub mod Parting
+pub mod Samples
 pub mod Slots

@@ -1,5 +1,6 @@
--- How keys part under the chosen model: one key, two keys, and more; no group has more than T keys, so every group is smaller
--- than its list, by a third or more from five keys on. That is why a build ends, and how high its tree is. Assumes nothing.
+-- How keys part under the chosen model: one key, two keys, and more. Of three keys or more no group has more than T, which is at
+-- most a third of the list, rounded up; so every group is smaller than its list. That is why a build ends, and how high its tree
+-- is. Assumes nothing.
 use mathlib.Core.List.{List, [], _∷_}
 use mathlib.Core.Path.{_≡_, refl, sym, subst, _∙_}
 use Prim.Native.Nat.{ℕ, _+_, _-_, _*_, _/_, _<_, _≤_}
@@ -11,12 +12,14 @@ use lib.ListN.{length, getD}
 use Rattle.laws.proofs.Tests.{both}
 use Rattle.laws.specs.Keys.{Rising}
 use Rattle.model.proofs.Counts.{count-within, count-none, spread-bounds}
-use Rattle.model.proofs.Least.{IsLeast, t-least, t-model, few-t, model-in-range, chosen-in-range, count-two}
+use Rattle.model.proofs.Groups.{group-counted}
+use Rattle.model.proofs.Heights.{height-rises, height-step}
+use Rattle.model.proofs.Least.{t-least, t-model, few-t, chosen-in-range, count-two}
 use Rattle.model.proofs.Slots.{slot-within, slot-under}
 use Rattle.model.specs.Choice.{slotsFor, countAt, modelAt, modelOf, tOf}
-use Rattle.model.specs.Height.{third}
-use Rattle.model.specs.Slots.{valueOf, slotOf, InRange}
-use Rattle.model.specs.declared.Model.{Model}
+use Rattle.model.specs.Groups.{keysTo}
+use Rattle.model.specs.Height.{third, height}
+use Rattle.model.specs.Slots.{valueOf, slotOf}
 
 two-keys : (ks : List ℕ) → length ks ≡ 2 → ks ≡ getD ks 0 0 ∷ getD ks 1 0 ∷ []
 two-keys [] e = absurd (omega arith)
@@ -100,3 +103,9 @@ module _ (ks : List ℕ) where
         (λ q.
         let three : 3 ≤ length ks = ltb-false (length ks) 3 q in
         omega (arith, group-few three s, t-least ks r three .within))
+
+    -- five keys or more: each group's H is lower by one, so H bounds the nodes on a path of the tree built over them
+    pub group-height : 4 < length ks → (s : ℕ) → 1 + height (length (keysTo (modelOf ks) s ks)) ≤ height (length ks)
+    group-height many s =
+        let few : length (keysTo (modelOf ks) s ks) ≤ third (length ks) = rw (group-counted (modelOf ks) s ks) (group-third (omega arith) s) in
+        omega (arith, height-rises _ _ few, height-step (length ks) many)

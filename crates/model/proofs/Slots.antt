@@ -1,25 +1,31 @@
 -- Laws of the slot formula: a slot is one of the node's, slots do not fall as values rise, and the test of a model's range
 -- says what the record of its range says. Assumes nothing.
-use mathlib.Core.Bool.{true, false}
+use mathlib.Core.Bool.{true}
 use mathlib.Core.List.{[], _∷_}
 use mathlib.Core.Logic.{_⊎_, inl, inr}
-use mathlib.Core.Path.{_≡_, refl, sym, ap, _∙_}
+use mathlib.Core.Path.{_≡_}
 use Prim.Native.Nat.{ℕ, _+_, _-_, _*_, _/_, _^_, _<_, _≤_}
+use native.Mathlib.Nat.{div-le-self}
 use native.Mathlib.Omega.{arith}
 use borrow.Author.Tests.{lt-ltb, le-ltb, le-leb, lt-leb, leb-true}
-use lib.Dec.{ltb, leb}
+use lib.Dec.{leb}
 use Rattle.laws.proofs.Quotients.{product-under, share-under, share-rises}
 use Rattle.laws.proofs.Tests.{both, le-or-lt, pick-and}
-use Rattle.laws.specs.Answers.{Answer, done, refused, outOfRange, damage}
+use Rattle.laws.specs.Answers.{done, refused, outOfRange, damage}
 use Rattle.laws.specs.Keys.{keyBound}
-use Rattle.model.specs.Slots.{leastSlots, mostSlots, valueBound, slotOf, InRange, inRange, slotChoice, slotted}
+use Rattle.model.specs.Slots.{leastSlots, mostSlots, slotOf, InRange, inRange, slotChoice}
 use Rattle.model.specs.declared.Model.{Model}
-use Rattle.model.specs.declared.Slotted.{Slotted}
-use Rattle.model.specs.declared.Slotted.the-variants.{At, KeyOutOfRange, ModelOutOfRange}
 
 -- the formula's product fits 64 bits
 pub scaled-fits : (x m : ℕ) → x ≤ 2 ^ 48 → m ≤ 4096 → x * m ≤ 2 ^ 60
 scaled-fits x m hx hm = product-under (2 ^ 48) 4096 hx hm
+
+pub scaled-fits64 : (x m : ℕ) → x ≤ 2 ^ 48 → m ≤ 4096 → x * m < 2 ^ 64
+scaled-fits64 x m hx hm = omega (arith, scaled-fits x m hx hm)
+
+-- and so does its quotient with one more, whatever the divisor
+pub share-fits64 : (x m w : ℕ) → x ≤ 2 ^ 48 → m ≤ 4096 → 1 + x * m / w < 2 ^ 64
+share-fits64 x m w hx hm = omega (arith, div-le-self (x * m) w, scaled-fits x m hx hm)
 
 module _ (m : Model) where
   -- the formula, case by case

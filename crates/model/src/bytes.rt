@@ -3,7 +3,7 @@
 ghost use mathlib.Core.Path.{_≡_};
 ghost use Prim.Native.Nat.{ℕ, _+_, _*_, _/_, _<_, _≤_};
 ghost use lib.ListN.{length, getD};
-ghost use Rattle.laws.specs.Bytes.{keysIn};
+ghost use Rattle.laws.specs.Bytes.{keyBytes, keysIn};
 ghost use Rattle.laws.specs.Keys.{Rising, firstFall, keyBound};
 ghost use Rattle.model.specs.Slots.{InRange};
 ghost use Rattle.model.specs.Choice.{mostKeys, spread, modelAt, choiceOf, modelChoice, chosen};
@@ -32,18 +32,20 @@ fn three(bytes: &[u8], p: usize) -> u64
 
 // The key at place i.
 fn key_at(bytes: &[u8], i: usize) -> u64
-    requires { ⌜ i < length (now bytes) / 6 ⌝ }
+    requires { ⌜ i < length (now bytes) / keyBytes ⌝ }
     ensures { λ r. ⌜ (r ≡ getD (keysIn (now (bytes .entry))) i 0) × (r < keyBound) ⌝ }
 {
-    let p = i * 6;
-    three(bytes, p) + 16777216 * three(bytes, p + 3)
+    let p = i * Model::KEY_BYTES;
+    let low = three(bytes, p);
+    let high = three(bytes, p + 3);
+    low + 16777216 * high
 }
 
 // The place of the first key not above its forerunner; the number of keys if there is none.
 fn first_fall(bytes: &[u8]) -> usize
     ensures { λ r. ⌜ r ≡ firstFall (keysIn (now (bytes .entry))) ⌝ }
 {
-    let n = bytes.len() / 6;
+    let n = bytes.len() / Model::KEY_BYTES;
     if n < 1 {
         return 0;
     }
@@ -65,8 +67,8 @@ fn is_spread(bytes: &[u8], m: Model, t: u16) -> bool
     requires { ⌜ InRange m ⌝ }
     ensures { λ r. ⌜ r ≡ spread m t (keysIn (now (bytes .entry))) ⌝ }
 {
-    let n = bytes.len() / 6;
-    let mut counts = [0u16; 4096];
+    let n = bytes.len() / Model::KEY_BYTES;
+    let mut counts = [0u16; Model::MOST_SLOTS as usize];
     let mut i = 0;
     while i < n {
         let s = slot_of(m, key_at(bytes, i)) as usize;
@@ -83,10 +85,10 @@ fn is_spread(bytes: &[u8], m: Model, t: u16) -> bool
 // The model that leaves t keys to each end.
 fn model_at(bytes: &[u8], t: usize) -> Model
     requires { ⌜ Rising (keysIn (now bytes)) ⌝ }
-    requires { ⌜ t + t < length (now bytes) / 6 ⌝ }
+    requires { ⌜ t + t < length (now bytes) / keyBytes ⌝ }
     ensures { λ r. ⌜ r ≡ modelAt (keysIn (now (bytes .entry))) t ⌝ }
 {
-    let n = bytes.len() / 6;
+    let n = bytes.len() / Model::KEY_BYTES;
     let lo = key_at(bytes, t);
     let w = key_at(bytes, n - 1 - t) - lo + 1;
     Model::new(lo, w, slots_for(n))
@@ -95,10 +97,10 @@ fn model_at(bytes: &[u8], t: usize) -> Model
 // The model over rising keys.
 fn model_of(bytes: &[u8]) -> Choice
     requires { ⌜ Rising (keysIn (now bytes)) ⌝ }
-    requires { ⌜ length (now bytes) / 6 ≤ mostKeys ⌝ }
+    requires { ⌜ length (now bytes) / keyBytes ≤ mostKeys ⌝ }
     ensures { λ r. ⌜ r ≡ choiceOf (keysIn (now (bytes .entry))) ⌝ }
 {
-    let n = bytes.len() / 6;
+    let n = bytes.len() / Model::KEY_BYTES;
     if n < 1 {
         return Choice {
             model: Model::new(0, Model::BOUND, Model::EMPTY_SLOTS),
@@ -129,10 +131,10 @@ pub fn model_choice(bytes: &[u8]) -> Chosen
     ensures { λ r. ⌜ chosen r ≡ modelChoice (now (bytes .entry)) ⌝ }
 {
     let len = bytes.len();
-    if len % 6 != 0 {
+    if len % Model::KEY_BYTES != 0 {
         return Chosen::WrongLength;
     }
-    let n = len / 6;
+    let n = len / Model::KEY_BYTES;
     if Model::MOST_KEYS < n {
         return Chosen::WrongLength;
     }

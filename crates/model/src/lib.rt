@@ -26,6 +26,8 @@ impl Model {
 
     pub const MOST_KEYS: usize = 16384;
 
+    pub const KEY_BYTES: usize = 6;
+
     pub fn new(lo: u64, w: u64, l: u64) -> Self
         ensures { λ r. ⌜ r ≡ record { lo = lo; w = w; l = l } ⌝ }
     {
@@ -79,7 +81,7 @@ pub fn slot_choice(key: u64, m: Model) -> Slotted
     Slotted::At(slot_of(m, key))
 }
 
-// A chosen model, with how many keys its ends hold.
+// A chosen model, with how many keys each of its ends holds.
 pub struct Choice {
     pub model: Model,
     pub t: u64,
@@ -98,7 +100,7 @@ fn slots_for(n: usize) -> u64
     if n < 2 {
         return Model::LEAST_SLOTS;
     }
-    if n < 2048 {
+    if n < (Model::MOST_SLOTS / 2) as usize {
         2 * n as u64
     } else {
         Model::MOST_SLOTS
@@ -111,7 +113,7 @@ fn is_spread(keys: &[u64], m: Model, t: u16) -> bool
     requires { ⌜ Rising (now keys) ⌝ }
     ensures { λ r. ⌜ r ≡ spread m t (now (keys .entry)) ⌝ }
 {
-    let mut counts = [0u16; 4096];
+    let mut counts = [0u16; Model::MOST_SLOTS as usize];
     let mut i = 0;
     while i < keys.len() {
         let s = slot_of(m, keys[i]) as usize;

@@ -14,20 +14,29 @@ use Rattle.sounding.specs.Studio.{leastDepth, mostDepth}
 abbrev pub above : ℤ → ℕ
 above depth = natAbs (depth +ℤ pos 20000)
 
--- 20,000 less a dry height of a + 1, which is at most 20,000
+-- a number that is 20,000 or more, less a dry height of a + 1, which is at most 20,000
+dry-sum : (a o : ℕ) → a ≤ 19999 → 20000 ≤ o → negsuc a +ℤ pos o ≡ pos (o - suc a)
+dry-sum a o h k = rw (le-ltb o (suc a) (omega arith))
+
 dry-above : (a : ℕ) → a ≤ 19999 → negsuc a +ℤ pos 20000 ≡ pos (20000 - suc a)
-dry-above a h = rw (le-ltb 20000 (suc a) (omega arith))
+dry-above a h = dry-sum a 20000 h (omega arith)
 
 -- the sum is not negative
-pub above-is-the-sum : (depth : ℤ) → leastDepth ≤ℤ depth → depth +ℤ pos 20000 ≡ pos (above depth)
-above-is-the-sum (pos a) h = refl
-above-is-the-sum (negsuc a) h =
-    let e : negsuc a +ℤ pos 20000 ≡ pos (20000 - suc a) = dry-above a (leb→le a 19999 (h .le)) in
+pub sum-is-natural : (depth : ℤ) (o : ℕ) → leastDepth ≤ℤ depth → 20000 ≤ o → depth +ℤ pos o ≡ pos (natAbs (depth +ℤ pos o))
+sum-is-natural (pos a) o h k = refl
+sum-is-natural (negsuc a) o h k =
+    let e : negsuc a +ℤ pos o ≡ pos (o - suc a) = dry-sum a o (leb→le a 19999 (h .le)) k in
     e ∙ sym (ap (λ (z : ℤ). pos (natAbs z)) e)
 
+pub above-is-the-sum : (depth : ℤ) → leastDepth ≤ℤ depth → depth +ℤ pos 20000 ≡ pos (above depth)
+above-is-the-sum depth h = sum-is-natural depth 20000 h (omega arith)
+
+pub sum-below : (depth : ℤ) (o : ℕ) → leastDepth ≤ℤ depth → depth ≤ℤ mostDepth → 20000 ≤ o → natAbs (depth +ℤ pos o) ≤ 1028575 + o
+sum-below (pos a) o h k l = omega (arith, leb→le a 1028575 (k .le))
+sum-below (negsuc a) o h k l = rw (dry-sum a o (leb→le a 19999 (h .le)) l) (omega arith)
+
 pub above-below : (depth : ℤ) → leastDepth ≤ℤ depth → depth ≤ℤ mostDepth → above depth < 2 ^ 20
-above-below (pos a) h k = omega (arith, leb→le a 1028575 (k .le))
-above-below (negsuc a) h k = rw (dry-above a (leb→le a 19999 (h .le))) (omega arith)
+above-below depth h k = omega (arith, sum-below depth 20000 h k (omega arith))
 
 pub above-back : (depth : ℤ) → leastDepth ≤ℤ depth → pos (above depth) -ℤ pos 20000 ≡ depth
 above-back depth h = ap (λ (z : ℤ). z -ℤ pos 20000) (sym (above-is-the-sum depth h)) ∙ +ℤ-negℤ-cancel depth (pos 20000)

@@ -1,19 +1,11 @@
--- Document 01, "Soundings to prove by": P9 and P10, and beside them the ends of both ranges and the first values past them.
--- Each answer is computed by the definitions.
+-- The ends of the ranges of packing and unpacking, the first values past them, and P9's way back. Each answer is computed by the
+-- definitions. Document 01's own cases, the least depth and the first one past it among them, stand in the crate demands.
 use mathlib.Core.List.{[], _∷_}
 use mathlib.Core.Path.{_≡_, refl}
 use Prim.Native.Nat.{_-_, _^_}
 use lib.IntN.{pos, negℤ}
 use Rattle.laws.specs.Answers.{done, refused}
 use Rattle.sounding.specs.Studio.{depthInRange, numberInRange, keyOf, soundingOf, packOf, unpackOf}
-
-pub P9 : packOf (negℤ (pos 150)) 7 ≡ done (5328443801607 ∷ [])
-unfolding packOf depthInRange numberInRange keyOf
-P9 = refl
-
-pub P10 : (packOf (negℤ (pos 20001)) 0 ≡ refused 2) × (packOf (negℤ (pos 20000)) 0 ≡ done (0 ∷ []))
-unfolding packOf depthInRange numberInRange keyOf
-P10 = (refl, refl)
 
 pub deepest-with-the-most-number : packOf (pos 1028575) 268435455 ≡ done ((2 ^ 48 - 1) ∷ [])
 unfolding packOf depthInRange numberInRange keyOf

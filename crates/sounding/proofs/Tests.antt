@@ -6,8 +6,9 @@ use mathlib.Core.Path.{_≡_, refl, sym, subst}
 use Prim.Native.Nat.{ℕ, _≤_}
 use lib.Dec.{T}
 use lib.IntN.{ℤ}
-use lib.Signed.{_≤ℤ_, _<ℤ_, leZ, ltZ, ltZ-no, clashℤ}
+use lib.Signed.{_≤ℤ_, _<ℤ_, leZ, ltZ, ltZ-no, <ℤ-≤ℤ-trans, clashℤ}
 use borrow.Author.Tests.{leb-true, le-leb}
+use Rattle.laws.proofs.Tests.{both}
 use Rattle.sounding.specs.Studio.{leastDepth, mostDepth, mostNumber, depthInRange, numberInRange}
 
 passed : (t : Bool) → T t → t ≡ true
@@ -32,6 +33,12 @@ le-leZ {a} {b} h = passed (leZ a b) (h .le)
 
 pub lt-leZ : {a b : ℤ} → b <ℤ a → leZ a b ≡ false
 lt-leZ {a} {b} h = failed (leZ a b) (λ t. clashℤ h (record { le = t }))
+
+pub le-le-trans : {a b c : ℤ} → a ≤ℤ b → b ≤ℤ c → a ≤ℤ c
+le-le-trans {a} {b} {c} h k = both (ltZ c a) (λ e. clashℤ (<ℤ-≤ℤ-trans (ltZ-true e) h) k) ltZ-false
+
+pub le-lt-trans : {a b c : ℤ} → a ≤ℤ b → b <ℤ c → a <ℤ c
+le-lt-trans {a} {b} {c} h k = both (ltZ a c) ltZ-true (λ e. clashℤ k (le-le-trans (ltZ-false e) h))
 
 -- "from -20,000 to 1,028,575"
 pub depth-between : (d : ℤ) → (depthInRange d ≡ true) ↔ ((leastDepth ≤ℤ d) × (d ≤ℤ mostDepth))

@@ -8,8 +8,6 @@ use borrow.Author.Needs.{needs}
 use Rattle.model.proofs.is_spread.Statement.{statement}
 use Rattle.model.proofs.is_spread.Tie as tie
 
--- Assumes nothing.
-
 abbrev Inv-loop : tie.InvT-loop
 Inv-loop keys m t counts₀ i₀ counts i = (i ≤ length keys) × Counted m t keys i counts
 
@@ -40,7 +38,7 @@ returns : tie.Need-returns Inv-loop μ-loop
 returns c =
     let l = c .before .before .before .before .loop in
     let r = c .before .slot-of in
-    counted-full _ _ _ (l .i) _ (l .inv .1) (r .result) (omega arith) (r .ensures .0) (omega arith) (r .ensures .1) (c .if1 .taken)
+    counted-full _ _ _ (l .i) _ (l .inv .1) (r .result) (omega arith) (r .ensures .0) (omega arith) (r .ensures .1) (omega arith)
 
 add-counts : tie.Need-add-counts Inv-loop μ-loop
 add-counts c = search needs
@@ -61,7 +59,7 @@ loop-again : tie.Need-loop-again Inv-loop μ-loop
 loop-again c =
     let l = c .before .before .before .before .loop in
     let r = c .before .slot-of in
-    (omega arith, counted-more _ _ _ (l .i) _ (l .inv .1) (r .result) (omega arith) (r .ensures .0) (omega arith) (c .if1 .left))
+    (omega arith, counted-more _ _ _ (l .i) _ (l .inv .1) (r .result) (omega arith) (r .ensures .0) (omega arith) (omega arith))
 
 returns-2 : tie.Need-returns-2 Inv-loop μ-loop
 returns-2 c =

@@ -9,8 +9,6 @@ use borrow.Author.Needs.{needs}
 use Rattle.model.proofs.model_of.Statement.{statement}
 use Rattle.model.proofs.model_of.Tie as tie
 
--- (proofs/Least): that is why it ends. Assumes nothing.
-
 abbrev Inv-loop : tie.InvT-loop
 Inv-loop keys n t₀ t = (3 ≤ length keys) × (1 ≤ t) × (t ≤ tOf keys)
 

@@ -7,15 +7,15 @@ use Rattle.model.proofs.slot_choice.Tie as tie
 
 returns : tie.Need-returns
 unfolding slotted
-returns c = choice-key _ _ (c .if1 .taken)
+returns c = choice-key _ _ (omega arith)
 
 returns-2 : tie.Need-returns-2
 unfolding slotted
-returns-2 c = choice-model _ _ (c .before .before .if1 .left) (λ r. omega arith)
+returns-2 c = choice-model _ _ (omega arith) (λ r. omega arith)
 
 returns-3 : tie.Need-returns-3
 unfolding slotted
-returns-3 c = choice-model _ _ (c .before .before .before .before .if1 .left) (λ r. omega arith)
+returns-3 c = choice-model _ _ (omega arith) (λ r. omega arith)
 
 returns-4 : tie.Need-returns-4
 unfolding slotted

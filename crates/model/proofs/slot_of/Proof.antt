@@ -1,8 +1,7 @@
 -- `model::slot_of` meets its contract: each way out is a case of the slot formula (proofs/Slots). Assumes nothing.
 use mathlib.Core.Path.{sym}
-use Prim.Native.Nat.{_-_}
 use native.Mathlib.Omega.{arith}
-use Rattle.model.proofs.Slots.{scaled-fits, slot-first, slot-last, slot-within, slot-under}
+use Rattle.model.proofs.Slots.{scaled-fits64, share-fits64, slot-first, slot-last, slot-within, slot-under}
 use borrow.Author.Needs.{needs}
 use Rattle.model.proofs.slot_of.Statement.{statement}
 use Rattle.model.proofs.slot_of.Tie as tie
@@ -27,18 +26,13 @@ sub-result-2 : tie.Need-sub-result-2
 sub-result-2 c = search needs
 
 mul-result : tie.Need-mul-result
-mul-result c =
-    let a = c .before .before .before .before .before .before .args in
-    omega (arith, scaled-fits (a .x - a .m .lo) (a .m .l - 2) (omega arith) (omega arith))
+mul-result c = record { fits = scaled-fits64 _ _ (omega arith) (omega arith) }
 
 div-result : tie.Need-div-result
 div-result c = search needs
 
 add-result : tie.Need-add-result
-add-result c =
-    let s = c .before .before .before .before .before .before .before in
-    let a = s .args in
-    omega (arith, slot-within (a .m) (a .x) (omega arith) (omega arith), slot-under (a .m) (s .pre .0) (a .x))
+add-result c = record { fits = share-fits64 _ _ _ (omega arith) (omega arith) }
 
 returns-3 : tie.Need-returns-3
 returns-3 c =

@@ -12,8 +12,6 @@ use borrow.Author.Needs.{needs}
 use Rattle.model.proofs.bytes.first_fall.Statement.{statement}
 use Rattle.model.proofs.bytes.first_fall.Tie as tie
 
--- Assumes nothing.
-
 abbrev Inv-loop : tie.InvT-loop
 Inv-loop bytes n before₀ i₀ before i =
     (0 < i) × (i ≤ length bytes / 6) × (before ≡ getD (keysIn bytes) (i - 1) 0) × (fallFrom i before (drop i (keysIn bytes)) ≡ firstFall (keysIn bytes))
@@ -41,7 +39,7 @@ returns-2 : tie.Need-returns-2 Inv-loop μ-loop
 returns-2 c =
     let s = c .before .before .before .before .before .before .before in
     let l = c .before .before .before .loop in
-    falls-here _ _ _ _ (l .inv .0) (rw (length-in (s .args .bytes .now)) (omega arith)) (l .inv .2) (c .before .key-at2 .ensures .0) (c .if2 .taken) (l .inv .3)
+    falls-here _ _ _ _ (l .inv .0) (rw (length-in (s .args .bytes .now)) (omega arith)) (l .inv .2) (c .before .key-at2 .ensures .0) (omega arith) (l .inv .3)
 
 add-i : tie.Need-add-i Inv-loop μ-loop
 add-i c = search needs
@@ -55,7 +53,7 @@ loop-again c =
     let l = c .before .before .before .loop in
     let k = c .before .key-at2 .ensures .0 in
     let e : l .i + 1 - 1 ≡ l .i = omega arith in
-    (omega arith, omega arith, rw e k, falls-step _ _ _ _ (l .inv .0) (rw (length-in (s .args .bytes .now)) (omega arith)) (l .inv .2) k (c .if2 .left) (l .inv .3))
+    (omega arith, omega arith, rw e k, falls-step _ _ _ _ (l .inv .0) (rw (length-in (s .args .bytes .now)) (omega arith)) (l .inv .2) k (omega arith) (l .inv .3))
 
 returns-3 : tie.Need-returns-3 Inv-loop μ-loop
 returns-3 c =

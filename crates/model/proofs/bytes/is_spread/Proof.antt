@@ -38,7 +38,7 @@ returns c =
     let l = c .before .before .before .before .loop in
     let r = c .before .slot-of in
     let e = r .ensures .0 ∙ ap (slotOf (s .args .m)) (c .before .before .key-at .ensures .0) in
-    counted-full _ _ _ (l .i) _ (l .inv .1) (r .result) (rw (length-in (s .args .bytes .now)) (omega arith)) e (omega arith) (r .ensures .1) (c .if1 .taken)
+    counted-full _ _ _ (l .i) _ (l .inv .1) (r .result) (rw (length-in (s .args .bytes .now)) (omega arith)) e (omega arith) (r .ensures .1) (omega arith)
 
 add-counts : tie.Need-add-counts Inv-loop μ-loop
 add-counts c = search needs
@@ -61,7 +61,7 @@ loop-again c =
     let l = c .before .before .before .before .loop in
     let r = c .before .slot-of in
     let e = r .ensures .0 ∙ ap (slotOf (s .args .m)) (c .before .before .key-at .ensures .0) in
-    (omega arith, counted-more _ _ _ (l .i) _ (l .inv .1) (r .result) (rw (length-in (s .args .bytes .now)) (omega arith)) e (omega arith) (c .if1 .left))
+    (omega arith, counted-more _ _ _ (l .i) _ (l .inv .1) (r .result) (rw (length-in (s .args .bytes .now)) (omega arith)) e (omega arith) (omega arith))
 
 returns-2 : tie.Need-returns-2 Inv-loop μ-loop
 returns-2 c =

@@ -8,18 +8,18 @@ use Rattle.model.proofs.bytes.model_choice.Tie as tie
 
 returns : tie.Need-returns
 unfolding chosen
-returns c = choice-uneven _ (c .if1 .taken)
+returns c = choice-uneven _ (λ e. omega arith)
 
 returns-2 : tie.Need-returns-2
 unfolding chosen
-returns-2 c = choice-many _ (c .before .if1 .left) (c .if2 .taken)
+returns-2 c = choice-many _ (omega arith)
 
 first-fall-requires : tie.Need-first-fall-requires
 first-fall-requires c κs = search needs
 
 returns-3 : tie.Need-returns-3
 unfolding chosen
-returns-3 c = choice-falls _ (c .before .before .before .if1 .left) (c .before .before .if2 .left) _ (c .before .first-fall .ensures) (c .if3 .taken)
+returns-3 c = choice-falls _ (omega arith) (omega arith) _ (c .before .first-fall .ensures) (c .if3 .taken)
 
 model-of-requires : tie.Need-model-of-requires
 model-of-requires c κs =
@@ -28,7 +28,7 @@ model-of-requires c κs =
 
 returns-4 : tie.Need-returns-4
 unfolding chosen
-returns-4 c = choice-is _ (c .before .before .before .before .if1 .left) (c .before .before .before .if2 .left) _ (c .before .before .first-fall .ensures) (c .before .if3 .left) _ (c .model-of .ensures)
+returns-4 c = choice-is _ (omega arith) (omega arith) _ (c .before .before .first-fall .ensures) (c .before .if3 .left) _ (c .model-of .ensures)
 
 pub model-choice-spec : {M : Type 1} → statement M
 model-choice-spec =
