@@ -5,8 +5,10 @@
 #   make edge-test   the C test alone; last line 'edge: N passed, M failed'
 #   make second      the independent second program; last line 'second: N passed, M failed'
 #   make second-desk the second program's store against the desk library; last line 'desk: N passed, M failed'
+#   make desk-test   the desk library from C; last line 'desk: N passed, M failed'
 #   make worst       look for key lists on which model choice is slow, for a minute
-#   make bench       the time each function of the C edge takes
+#   make bench       the time each function of the C edge takes, and load and lookup beside a BTreeMap
+#   make bench-store the time each call of the desk library takes, beside a BTreeMap and a sorted array
 #   make clean       remove target/
 
 CC = gcc
@@ -18,8 +20,10 @@ EDGE = $(EDGE_DIR)/libedge.a
 LINK_EDGE = -L native=$(EDGE_DIR) -l static=edge
 DESK = $(EDGE_DIR)/libdesk.a
 LINK_DESK = -L native=$(EDGE_DIR) -l static=desk
-# the calls that the desk library has today
-DESK_CALLS = unpack load lookup replace delete
+# the calls that the desk library has today; 'all' stands for every one
+DESK_CALLS = unpack load lookup replace delete band
+DESK_CFG = $(foreach call,$(DESK_CALLS),--cfg 'desk="$(call)"')
+DESK_DEFINES = $(foreach call,$(DESK_CALLS),-DDESK_$(call))
 PROVED = crates.txt $(shell find crates -name '*.rt' -o -name '*.antt')
 
 need = @command -v $(1) >/dev/null || { echo "$(1) is missing: $(2)" >&2; exit 1; }
@@ -27,7 +31,7 @@ need_cc = $(call need,$(CC),install a C11 compiler or name yours with 'make CC=.
 need_rustc = $(call need,$(RUSTC),install Rust or name its compiler with 'make RUSTC=..')
 need_rt = $(call need,rt,install the Rattle kit and put its rt on the PATH)
 
-.PHONY: test run edge-test second second-program second-desk worst bench clean
+.PHONY: test run edge-test second second-program second-desk desk-test worst bench bench-store clean
 
 test:
 	@test -x .ci/run || { echo ".ci/run is missing: take it from the repository again" >&2; exit 1; }
@@ -51,8 +55,14 @@ second: second-program
 second-desk: $(DESK)
 	$(need_rustc)
 	@mkdir -p target/second
-	@$(RUSTC) $(RUSTFLAGS) $(foreach call,$(DESK_CALLS),--cfg 'desk="$(call)"') tests/second/desk_main.rs $(LINK_DESK) -o target/second/desk
+	@$(RUSTC) $(RUSTFLAGS) $(DESK_CFG) tests/second/desk_main.rs $(LINK_DESK) -o target/second/desk
 	@target/second/desk
+
+desk-test: $(DESK)
+	$(need_cc)
+	@mkdir -p target/test
+	@$(CC) $(CFLAGS) $(DESK_DEFINES) tests/desk.c $(DESK) -o target/test/desk
+	@target/test/desk
 
 worst: second-program
 	@target/second/second --worst
@@ -62,11 +72,19 @@ second-program: $(EDGE)
 	@mkdir -p target/second
 	@$(RUSTC) $(RUSTFLAGS) tests/second/main.rs $(LINK_EDGE) -o target/second/second
 
-bench: $(EDGE)
+bench: $(EDGE) $(DESK)
 	$(need_rustc)
 	@mkdir -p target/bench
 	@$(RUSTC) $(RUSTFLAGS) bench/leaves.rs $(LINK_EDGE) -o target/bench/leaves
 	@target/bench/leaves
+	@$(RUSTC) $(RUSTFLAGS) bench/load.rs $(LINK_DESK) -o target/bench/load
+	@target/bench/load
+
+bench-store: $(DESK)
+	$(need_rustc)
+	@mkdir -p target/bench
+	@$(RUSTC) $(RUSTFLAGS) $(DESK_CFG) bench/store.rs $(LINK_DESK) -o target/bench/store
+	@target/bench/store
 
 $(EDGE): $(PROVED)
 	$(need_rt)

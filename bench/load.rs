@@ -117,10 +117,10 @@ impl Pools {
     }
 }
 
-const REPEATS: usize = 21;
+const REPEATS: usize = 41;
 
-/// The median of the repeats, in nanoseconds.
-fn median(mut once: impl FnMut()) -> f64 {
+/// The least of the repeats, in nanoseconds: what the call takes when nothing else disturbs it.
+fn least(mut once: impl FnMut()) -> f64 {
     let mut times: Vec<f64> = (0..REPEATS)
         .map(|_| {
             let start = Instant::now();
@@ -129,32 +129,32 @@ fn median(mut once: impl FnMut()) -> f64 {
         })
         .collect();
     times.sort_by(f64::total_cmp);
-    times[REPEATS / 2]
+    times[0]
 }
 
 fn measure(name: &str, keys: &[u64], random: &mut Random) {
     let payloads: Vec<u64> = (0..keys.len() as u64).collect();
     let mut pools = Pools::new(16_384, 131_072);
     let handle = pools.load(16_384, keys, &payloads).handle;
-    let load = median(|| {
+    let load = least(|| {
         black_box(pools.load(16_384, black_box(keys), &payloads).number);
     });
-    let tree = median(|| {
+    let tree = least(|| {
         black_box(BTreeMap::from_iter(keys.iter().copied().zip(payloads.iter().copied())).len());
     });
     println!("load   {name:22} {:6} keys {:9.1} us  BTreeMap {:9.1} us  ratio {:.2}", keys.len(), load / 1e3, tree / 1e3, load / tree);
     let map = BTreeMap::from_iter(keys.iter().copied().zip(payloads.iter().copied()));
     let asked: Vec<u64> = (0..100_000).map(|_| keys[random.below(keys.len() as u64) as usize]).collect();
     let each = asked.len() as f64;
-    let ours = median(|| {
+    let ours = least(|| {
         let sum = asked.iter().fold(0u64, |sum, &key| sum.wrapping_add(pools.lookup(handle, key).payload));
         black_box(sum);
     }) / each;
-    let theirs = median(|| {
+    let theirs = least(|| {
         let sum = asked.iter().fold(0u64, |sum, key| sum.wrapping_add(map[key]));
         black_box(sum);
     }) / each;
-    let sorted = median(|| {
+    let sorted = least(|| {
         let sum = asked.iter().fold(0u64, |sum, key| sum.wrapping_add(payloads[keys.binary_search(key).unwrap()]));
         black_box(sum);
     }) / each;

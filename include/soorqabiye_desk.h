@@ -22,10 +22,10 @@
  *     used    the map of used places, one bit for each record and each slot:
  *             SOORQABIYE_USED_WORDS(records, slots) words
  *
- *   What each word holds is written in docs/MEMORY.md. A load makes the map and its handle, whatever
- *   the pools held before. Afterwards the pools belong to that handle, and to the handles that
- *   changing calls return in its place: the caller keeps the latest. Nothing else has to be kept,
- *   and two maps in two sets of pools know nothing of each other.
+ *   What each word holds is written in docs/MEMORY.md. A load makes the map and its handle,
+ *   whatever the pools held before. Afterwards the pools belong to that handle, and to the handles
+ *   that changing calls return in its place: the caller keeps the latest. Nothing else has to be
+ *   kept, and two maps in two sets of pools know nothing of each other.
  *
  * Lists
  *   Every list is passed as a pointer and its length in words (keys and payloads: one word each).
@@ -39,7 +39,7 @@
  *   soorqabiye_insert), and the other fields are zero but for what the table names.
  *
  *   number  constant                meaning                                        returned besides
- *   0       SOORQABIYE_DONE         done                                           see each function
+ *   0       SOORQABIYE_DONE         done                                           see each call
  *   1       SOORQABIYE_SIZE         a pool or the capacity outside its limits or
  *                                   not the handle's, the count above the
  *                                   capacity, scratch shorter than the capacity,
@@ -59,11 +59,11 @@
  *   refused load makes no handle: its `handle` is all zeros, and a map that stood in the pools
  *   before stands there still under its own handle.
  *
- *   Words of any value may stand in the pools and in the handle. What breaks a rule is answered by a
- *   refusal, never by undefined behaviour.
+ *   Words of any value may stand in the pools and in the handle. What breaks a rule is answered by
+ *   a refusal, never by undefined behaviour.
  *
- * The functions allocate nothing, keep no pointer and always return. Calls that only read one set of
- * pools may run at once in several threads.
+ * The functions allocate nothing, keep no pointer and always return. Calls that only read one set
+ * of pools may run at once in several threads.
  */
 #ifndef SOORQABIYE_DESK_H
 #define SOORQABIYE_DESK_H
@@ -82,7 +82,7 @@ extern "C" {
 /* What soorqabiye_insert says in `tidying`. */
 #define SOORQABIYE_NOT_DUE 0    /* no node on the path was due */
 #define SOORQABIYE_TIDIED 1     /* the due node nearest the root was built afresh */
-#define SOORQABIYE_PUT_OFF 2    /* it was due, but without room or too deep; the key is in all the same */
+#define SOORQABIYE_PUT_OFF 2    /* it was due, but without room or too deep; the key is in still */
 #define SOORQABIYE_WHOLE_TREE 3 /* the path had 24 nodes, and the whole tree was built afresh */
 
 /* Names a map in its pools. Passed and returned by value; no part of the pools. */
@@ -104,7 +104,7 @@ struct soorqabiye_sounding {
 /* Answer of soorqabiye_load. */
 struct soorqabiye_loaded {
     uint64_t number;                 /* 0, 1, 2, 4, 7 or 8 */
-    uint64_t place;                  /* number 4: place of the first key not above the one before it */
+    uint64_t place;                  /* number 4: of the first key not above the one before it */
     struct soorqabiye_handle handle; /* number 0: the map's handle; else zeros */
 };
 
@@ -132,7 +132,7 @@ struct soorqabiye_listed {
 /* Answer of soorqabiye_insert. */
 struct soorqabiye_inserted {
     uint64_t number;                 /* 0, 1, 2, 5, 7, 8 or 9 */
-    uint64_t conflict;               /* number 0: 1 if the key's slot held another key, 0 if not; else 0 */
+    uint64_t conflict;               /* number 0: 1 if the key's slot held another key; else 0 */
     uint64_t tidying;                /* number 0: one of the four above; else 0 */
     struct soorqabiye_handle handle; /* number 0: the next handle; else the one given */
 };
@@ -174,8 +174,8 @@ struct soorqabiye_loaded soorqabiye_load(size_t capacity, const uint64_t *keys, 
  * The payload of a key.
  *
  * Answers, the first that applies
- *   1   the pools' sizes are outside the limits or not the handle's, the handle's capacity is outside
- *       its limits, or its count above its capacity
+ *   1   the pools' sizes are outside the limits or not the handle's, the handle's capacity is
+ *       outside its limits, or its count above its capacity
  *   2   key is 2^48 or more
  *   9   damage on the key's path
  *   6   the key is not held; visits is how many nodes were visited

@@ -6,8 +6,8 @@
 //!     desk --only NAME     only the parts whose name begins so
 //!
 //! It shares no code with the proved crates. N counts calls of the library in which the answer and
-//! every lent word agreed. Parts that need a call which the library lacks are left out: see
-//! desk/library.rs.
+//! every lent word agreed, and the rows of the part 'document', which the second store has to hold
+//! by itself. Parts that need a call which the library lacks are left out: see desk/library.rs.
 
 #![allow(dead_code)] // the modules shared with the first half hold more than is used here
 

@@ -13,9 +13,3 @@ pub fn key_of(depth: i64, number: u64) -> Option<u64> {
     let key = (i128::from(depth) + 20_000) * 268_435_456 + i128::from(number);
     Some(u64::try_from(key).expect("a key is below 2^48"))
 }
-
-/// Depth and number of a key below 2^48, the other way round.
-pub fn sounding_of(key: u64) -> (i64, u64) {
-    let depth = i64::try_from(key / 268_435_456).expect("a key is below 2^48");
-    (depth - 20_000, key % 268_435_456)
-}

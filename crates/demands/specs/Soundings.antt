@@ -11,17 +11,20 @@ use Rattle.model.specs.Slots.{valueOf, slotOf}
 use Rattle.model.specs.declared.Choice.{Choice}
 use Rattle.pool.specs.Memory.{Mem, mem}
 use Rattle.sounding.specs.Studio.{packOf}
+use Rattle.store.specs.Bands.{Band, band, bandOf}
 use Rattle.store.specs.Calls.{Call, call}
 use Rattle.store.specs.Handles.{noHandle}
 use Rattle.store.specs.Loading.{loadOf}
 use Rattle.store.specs.declared.Handle.{Handle}
 
 -- a row: keys with the model chosen over them (L, T, lo, W) and the slot of each key; a depth and a number with the answer; a load
--- of keys with payloads, of some capacity into some memory, with its answer, handle and every word left
+-- of keys with payloads, of some capacity into some memory, with its answer, handle and every word left; a band from u to v over some
+-- memory into two output lists, with its answer and the output left
 pub data Row : Type 0 where
   node : (keys : List ℕ) → (l t lo w : ℕ) → (slots : List ℕ) → Row
   key : (depth : ℤ) → (number : ℕ) → Answer ℕ → Row
   loads : (capacity : ℕ) → (keys payloads : List ℕ) → Mem → Call → Row
+  lists : (h : Handle) → (u v : ℕ) → Mem → (keys payloads : List ℕ) → Band → Row
 
 abbrev pub choice : ℕ → ℕ → ℕ → ℕ → Choice
 choice l t lo w = record { model = record { lo = lo; w = w; l = l }; t = t }
@@ -30,6 +33,7 @@ abbrev pub Holds : Row → Type 0
 Holds (node ks l t lo w ss) = (choiceOf ks ≡ choice l t lo w) × (map (λ (k : ℕ). slotOf (choiceOf ks .model) (valueOf k)) ks ≡ ss)
 Holds (key d n a) = packOf d n ≡ a
 Holds (loads c ks ps m x) = loadOf c ks ps m ≡ x
+Holds (lists h u v m ks ps b) = bandOf h u v m ks ps ≡ b
 
 abbrev pub All : List Row → Type 0
 All [] = Unit
@@ -51,6 +55,10 @@ p4Pools =
     ∷ 0 ∷ 0 ∷ (2 ^ 48 + 0) ∷ 1 ∷ (2 ^ 48 + 100) ∷ 2 ∷ 0 ∷ 0
     ∷ 0 ∷ 0 ∷ (2 ^ 48 + 10000) ∷ 5 ∷ (2 ^ 48 + 20000) ∷ 6 ∷ 0 ∷ 0 ∷ [])
     ((2 ^ 23 - 1) ∷ [])
+
+-- the store of no keys: the root with its 64 slots
+abbrev pub nothing : Mem
+nothing = mem (0 ∷ (2 ^ 48) ∷ 64 ∷ 0 ∷ 0 ∷ 0 ∷ 0 ∷ 0 ∷ []) (replicate 128 0) ((2 ^ 64 - 1) ∷ 1 ∷ [])
 
 abbrev pub handle : ℕ → ℕ → ℕ → ℕ → ℕ → Handle
 handle root count capacity records slots = record { root = root; count = count; capacity = capacity; records = records; slots = slots }
@@ -79,7 +87,7 @@ table =
     ∷ key (negℤ (pos 20000)) 0 (done (0 ∷ []))
     -- P11
     ∷ loads 2 (4 ∷ 4 ∷ []) (1 ∷ 2 ∷ []) oldPools (call (refusedWith notRising (1 ∷ [])) noHandle oldPools)
-    -- P12's load of nothing
-    ∷ loads 1 [] [] emptyPools
-    (call (done []) (handle 0 0 1 1 64) (mem (0 ∷ (2 ^ 48) ∷ 64 ∷ 0 ∷ 0 ∷ 0 ∷ 0 ∷ 0 ∷ []) (replicate 128 0) ((2 ^ 64 - 1) ∷ 1 ∷ [])))
+    -- P12: a load of nothing, and a band over it: none, no more
+    ∷ loads 1 [] [] emptyPools (call (done []) (handle 0 0 1 1 64) nothing)
+    ∷ lists (handle 0 0 1 1 64) 0 (2 ^ 48 - 1) nothing (3 ∷ []) (5 ∷ []) (band (done (0 ∷ 0 ∷ [])) (3 ∷ []) (5 ∷ []))
     ∷ []

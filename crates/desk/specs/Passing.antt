@@ -9,9 +9,11 @@ use Rattle.laws.specs.Answers.{Answer, notHeld}
 use Rattle.laws.specs.Pick.{pick}
 use Rattle.pool.specs.Memory.{Mem}
 use Rattle.sounding.specs.declared.Sounding.{Sounding}
+use Rattle.store.specs.Bands.{Band}
 use Rattle.store.specs.Calls.{Call, changed}
 use Rattle.store.specs.declared.Changing.{Changing}
 use Rattle.desk.specs.declared.ChangedAnswer.{ChangedAnswer}
+use Rattle.desk.specs.declared.ListedAnswer.{ListedAnswer}
 use Rattle.desk.specs.declared.LoadedAnswer.{LoadedAnswer}
 use Rattle.desk.specs.declared.LookedAnswer.{LookedAnswer}
 use Rattle.desk.specs.declared.SoundingAnswer.{SoundingAnswer}
@@ -58,3 +60,17 @@ load a m = record { answer = a; memory = m }
 -- 4 returns the place; the handle is zeros when refused
 unfoldable pub passLoad : Call → Load
 passLoad c = load (record { number = c .answer .number; place = getD (c .answer .values) 0 0; handle = c .handle }) (c .memory)
+
+-- what a band leaves, answer and output
+pub record Listing : Type 0 where
+  pub answer : ListedAnswer
+  pub keys : List ℕ
+  pub payloads : List ℕ
+
+abbrev pub listing : ListedAnswer → List ℕ → List ℕ → Listing
+listing a ks ps = record { answer = a; keys = ks; payloads = ps }
+
+-- 0 returns how many were listed and whether more remain
+unfoldable pub passBand : Band → Listing
+passBand b =
+    listing (record { number = b .answer .number; count = getD (b .answer .values) 0 0; more = getD (b .answer .values) 1 0 }) (b .keys) (b .payloads)

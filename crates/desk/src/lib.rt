@@ -3,14 +3,16 @@
 ghost use mathlib.Core.Path.{_≡_};
 ghost use Rattle.pool.specs.Memory.{mem};
 ghost use Rattle.sounding.specs.Studio.{unpackOf};
+ghost use Rattle.store.specs.Bands.{bandOf};
 ghost use Rattle.store.specs.Calls.{lookupOf, replaceOf, deleteOf};
 ghost use Rattle.store.specs.Handles.{noHandle};
 ghost use Rattle.store.specs.Loading.{loadOf};
-ghost use Rattle.desk.specs.Passing.{passSounding, passLoad, load, passLooked, passChange, passChanging, change};
+ghost use Rattle.desk.specs.Passing.{passSounding, passLoad, load, passLooked, passChange, passChanging, change, passBand, listing};
 use sounding::Unpacked;
 use store::Changed;
 use store::Changing;
 use store::Handle;
+use store::Listed;
 use store::Loaded;
 use store::Looked;
 
@@ -33,6 +35,13 @@ pub struct LookedAnswer {
     pub number: u64,
     pub payload: u64,
     pub visits: usize,
+}
+
+#[repr(C)]
+pub struct ListedAnswer {
+    pub number: u64,
+    pub count: usize,
+    pub more: usize,
 }
 
 #[repr(C)]
@@ -196,4 +205,41 @@ pub extern "C" fn soorqabiye_delete(
         ≡ passChange (deleteOf h key (mem (now (nodes .entry)) (now (slots .entry)) (now (used .entry)))) ⌝ }
 {
     passed(store::delete(h, key, nodes, slots, used))
+}
+
+fn refused_list(number: u64) -> ListedAnswer
+    ensures { λ r. ⌜ r ≡ record { number = number; count = 0; more = 0 } ⌝ }
+{
+    ListedAnswer {
+        number,
+        count: 0,
+        more: 0,
+    }
+}
+
+#[no_mangle]
+pub extern "C" fn soorqabiye_band(
+    h: Handle,
+    u: u64,
+    v: u64,
+    nodes: &[u64],
+    slots: &[u64],
+    used: &[u64],
+    keys: &mut [u64],
+    payloads: &mut [u64],
+) -> ListedAnswer
+    ensures { λ r. ⌜ listing r (now (keys .exit)) (now (payloads .exit))
+        ≡ passBand (bandOf h u v (mem (now (nodes .entry)) (now (slots .entry)) (now (used .entry))) (now (keys .entry)) (now (payloads .entry))) ⌝ }
+{
+    match store::bands::band(h, u, v, nodes, slots, used, keys, payloads) {
+        Listed::Done(count, more) => ListedAnswer {
+            number: 0,
+            count,
+            more,
+        },
+        Listed::WrongSizes => refused_list(1),
+        Listed::OutOfRange => refused_list(2),
+        Listed::Reversed => refused_list(3),
+        Listed::Damage => refused_list(9),
+    }
 }

@@ -1,4 +1,5 @@
 pub mod Bands
 pub mod Calls
 pub mod Handles
+pub mod Listings
 pub mod Loading

@@ -12,6 +12,8 @@ use pool::Node;
 use walk::End;
 use walk::Path;
 
+pub mod bands;
+
 // What names a store between calls: the root's record, the count of keys, the capacity and the pools' sizes.
 #[repr(C)]
 pub struct Handle {

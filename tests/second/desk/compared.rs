@@ -312,13 +312,27 @@ fn tell_memory(about: &str, both: &Both) {
 /// The records and slots that are not all zeros, as far as they are few, and the map.
 fn show(mem: &Mem) {
     let records = mem.nodes.chunks(RECORD_WORDS).enumerate();
-    for (number, words) in records.filter(|(_, words)| words.iter().any(|&w| w != 0)).take(60) {
-        let mark = if mem.record_used(number as u64) { "used" } else { "unused" };
+    for (number, words) in records
+        .filter(|(_, words)| words.iter().any(|&w| w != 0))
+        .take(60)
+    {
+        let mark = if mem.record_used(number as u64) {
+            "used"
+        } else {
+            "unused"
+        };
         println!("  record {number} ({mark}): {words:?}");
     }
     let slots = mem.slots.chunks(SLOT_WORDS).enumerate();
-    for (place, words) in slots.filter(|(_, words)| words.iter().any(|&w| w != 0)).take(200) {
-        let mark = if mem.slot_used(place as u64) { "used" } else { "unused" };
+    for (place, words) in slots
+        .filter(|(_, words)| words.iter().any(|&w| w != 0))
+        .take(200)
+    {
+        let mark = if mem.slot_used(place as u64) {
+            "used"
+        } else {
+            "unused"
+        };
         let whole = words.len() == SLOT_WORDS;
         match whole.then(|| mem.slot(place as u64)).flatten() {
             Some(slot) => println!("  slot {place} ({mark}): {slot:?}"),

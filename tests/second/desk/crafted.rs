@@ -134,22 +134,31 @@ pub fn wide(l: u64) -> Store {
     craft.store(root, count, count + 1)
 }
 
-/// A root of which some slots lead to one empty node: with it, one more node is read for each.
+/// A node, below none to two others, of which some slots lead to one empty node: for each of them
+/// a walk reads one node more. There are about as many records as nodes read.
 pub fn shared_empty(random: &mut Random) -> Store {
+    let above = random.below(3) as usize;
     let l = random.between(4, 9);
     let many = random.between(1, l);
-    let records = (many + random.below(3)).max(2);
-    let mut craft = Craft::new(records as usize, 40);
-    let root = craft.node(10, 90, l).expect("room");
-    let empty = craft.node(random.below(100), random.between(1, 50), 4).expect("room");
+    let records = (many + random.below(4)).max(above as u64 + 2);
+    let mut craft = Craft::new(records as usize, 60);
+    let chain = chain(&mut craft, above, random).expect("room");
+    let hub = craft.node(10, 90, l).expect("room");
+    let empty = craft
+        .node(random.below(100), random.between(1, 50), 4)
+        .expect("room");
+    if let Some(&last) = chain.last() {
+        craft.hang(last, 1, hub);
+    }
     for slot in 0..l {
         if slot < many {
-            craft.hang(root, slot, empty);
+            craft.hang(hub, slot, empty);
         } else {
             let key = first_key_at(slot, 10, 90, l);
-            craft.data(root, slot, key);
+            craft.data(hub, slot, key);
         }
     }
+    let root = chain.first().copied().unwrap_or(hub);
     let count = l - many;
     craft.store(root, count, count + 1 + random.below(3))
 }
@@ -234,12 +243,30 @@ impl Growing<'_> {
             self.craft.hang(number, slot, child);
             let start = self.craft.place(child, 0);
             let l = self.craft.mem.record(child).expect("made here").l;
-            let bare = (start..start + l).all(|place| self.craft.mem.slot(place) == Some(Slot::Null));
+            let bare =
+                (start..start + l).all(|place| self.craft.mem.slot(place) == Some(Slot::Null));
             if bare {
                 self.empty = Some(child);
             }
         }
     }
+}
+
+/// Words of any bits under a handle that fits them.
+pub fn junk(random: &mut Random) -> Store {
+    let (records, slots) = (random.between(1, 6), random.between(4, 40));
+    let mut mem = Mem::zeros(records as usize, slots as usize);
+    for list in [&mut mem.nodes, &mut mem.slots, &mut mem.used] {
+        list.fill_with(|| random.of_bits(63) << random.below(2));
+    }
+    let handle = Handle {
+        root: random.below(records),
+        count: 3,
+        capacity: 9,
+        records,
+        slots,
+    };
+    Store { mem, handle }
 }
 
 /// Records and slots of any values that could nearly be right: runs may overlap, marks may lack,

@@ -81,6 +81,11 @@ fn flipped_mark(mem: &Mem, place: usize) -> Change {
     }
 }
 
+/// The number whose sum with this one is that in 64 bits, though not in whole numbers.
+fn wrapping_to(sum: u64, number: u64) -> u64 {
+    sum.wrapping_sub(number)
+}
+
 /// Values for lo, W, L, start and the words behind them: within the rules, at their ends, past
 /// them, and so large that a sum would wrap round.
 fn record_values(mem: &Mem, record: &Record) -> Vec<(usize, Vec<u64>)> {
@@ -90,13 +95,18 @@ fn record_values(mem: &Mem, record: &Record) -> Vec<(usize, Vec<u64>)> {
     let slots = mem.slot_count();
     let near = |value: u64| [value.wrapping_sub(1), value.wrapping_add(1)];
     let large = [KEY_END - 1, KEY_END, 1 << 63, u64::MAX];
-    let mut los = vec![0, KEY_END - w, KEY_END - w + 1, u64::MAX - w + 1];
-    let mut ws = vec![0, 1, KEY_END - lo, KEY_END - lo + 1, u64::MAX - lo + 2];
+    let mut los = vec![0, KEY_END - w, KEY_END - w + 1, wrapping_to(0, w)];
+    let mut ws = vec![0, 1, KEY_END - lo, KEY_END - lo + 1, wrapping_to(1, lo)];
     let mut ls = vec![0, 1, 2, 3, 4, 5, 4_096, 4_097, (1 << 32) + l];
     let mut starts = vec![0, slots - l, slots - l + 1, slots, (1 << 32) + start];
-    ls.extend([slots - start, slots - start + 1, u64::MAX - start + 5]);
-    starts.push(u64::MAX - l + 1);
-    for (values, value) in [(&mut los, lo), (&mut ws, w), (&mut ls, l), (&mut starts, start)] {
+    ls.extend([slots - start, slots - start + 1, wrapping_to(4, start)]);
+    starts.push(wrapping_to(0, l));
+    for (values, value) in [
+        (&mut los, lo),
+        (&mut ws, w),
+        (&mut ls, l),
+        (&mut starts, start),
+    ] {
         values.extend(near(value));
         values.extend(large);
     }
@@ -119,7 +129,11 @@ fn slot_values(mem: &Mem, place: u64) -> Vec<(usize, u64)> {
         other_values.push((1 << 32) + value);
     }
     let kind = first / KIND_UNIT;
-    values.extend(other_values.into_iter().map(|value| (0, kind * KIND_UNIT + value)));
+    values.extend(
+        other_values
+            .into_iter()
+            .map(|value| (0, kind * KIND_UNIT + value)),
+    );
     values.extend([(0, NODE_KIND * KIND_UNIT), (1, !second), (1, 1)]);
     values
 }
@@ -181,7 +195,13 @@ pub fn misplace(mem: &mut Mem, random: &mut Random) -> &'static str {
         }
         3 => {
             let (_, other) = any_node(random);
-            mem.put_record(number, &Record { start: other.start, ..record });
+            mem.put_record(
+                number,
+                &Record {
+                    start: other.start,
+                    ..record
+                },
+            );
             "two nodes at one start"
         }
         4 => {
@@ -207,7 +227,9 @@ pub fn misplace(mem: &mut Mem, random: &mut Random) -> &'static str {
 
 fn move_child(mem: &mut Mem, record: &Record, random: &mut Random) {
     let run = record.start..record.start + record.l;
-    let child = run.clone().find(|&place| matches!(mem.slot(place), Some(Slot::Node { .. })));
+    let child = run
+        .clone()
+        .find(|&place| matches!(mem.slot(place), Some(Slot::Node { .. })));
     if let Some(place) = child {
         swap_slots(mem, place, run.start + random.below(record.l));
     }

@@ -175,6 +175,10 @@ fn each_crafted(random: &mut Random, visit: &mut Visit) {
         let store = crafted::wide(l);
         small_keys("a node as wide as may be", store, random, visit);
     }
+    for _ in 0..300 {
+        let store = crafted::junk(random);
+        small_keys("junk", store, random, visit);
+    }
     for _ in 0..4_000 {
         let store = crafted::shared_empty(random);
         small_keys("a shared empty node", store, random, visit);
@@ -230,19 +234,40 @@ fn each_handle(random: &mut Random, visit: &mut Visit) {
 
 fn wrong_handles(handle: &Handle) -> Vec<Handle> {
     let mut handles = Vec::new();
-    for root in [0, 1, 2, handle.records - 1, handle.records, 1 << 32, u64::MAX] {
+    for root in [
+        0,
+        1,
+        2,
+        handle.records - 1,
+        handle.records,
+        1 << 32,
+        u64::MAX,
+    ] {
         handles.push(Handle { root, ..*handle });
     }
     let far = [0, 1, 2, 16_384, 16_385, 1 << 32, u64::MAX];
-    for value in far.into_iter().chain([handle.capacity - 1, handle.capacity + 1]) {
-        handles.push(Handle { count: value, ..*handle });
-        handles.push(Handle { capacity: value, ..*handle });
+    for value in far
+        .into_iter()
+        .chain([handle.capacity - 1, handle.capacity + 1])
+    {
+        handles.push(Handle {
+            count: value,
+            ..*handle
+        });
+        handles.push(Handle {
+            capacity: value,
+            ..*handle
+        });
     }
     let near = |size: u64| [size - 1, size + 1, 2 * size, size + (1 << 32)];
     for records in far.into_iter().chain(near(handle.records)) {
         handles.push(Handle { records, ..*handle });
     }
-    for slots in far.into_iter().chain(near(handle.slots)).chain([3, 4, 131_073]) {
+    for slots in far
+        .into_iter()
+        .chain(near(handle.slots))
+        .chain([3, 4, 131_073])
+    {
         handles.push(Handle { slots, ..*handle });
     }
     handles
@@ -254,12 +279,30 @@ fn wrong_lengths(mem: &Mem) -> Vec<Mem> {
         let longer = |list: &[u64]| [list, &vec![0; more][..]].concat();
         let shorter = |list: &[u64]| list[..list.len().saturating_sub(more)].to_vec();
         all.extend([
-            Mem { nodes: longer(&mem.nodes), ..mem.clone() },
-            Mem { nodes: shorter(&mem.nodes), ..mem.clone() },
-            Mem { slots: longer(&mem.slots), ..mem.clone() },
-            Mem { slots: shorter(&mem.slots), ..mem.clone() },
-            Mem { used: longer(&mem.used), ..mem.clone() },
-            Mem { used: shorter(&mem.used), ..mem.clone() },
+            Mem {
+                nodes: longer(&mem.nodes),
+                ..mem.clone()
+            },
+            Mem {
+                nodes: shorter(&mem.nodes),
+                ..mem.clone()
+            },
+            Mem {
+                slots: longer(&mem.slots),
+                ..mem.clone()
+            },
+            Mem {
+                slots: shorter(&mem.slots),
+                ..mem.clone()
+            },
+            Mem {
+                used: longer(&mem.used),
+                ..mem.clone()
+            },
+            Mem {
+                used: shorter(&mem.used),
+                ..mem.clone()
+            },
         ]);
     }
     all

@@ -50,7 +50,9 @@ fn around_enough(
     if enough > 0 {
         rooms.push(enough - 1);
     }
-    let more = rooms.into_iter().map(|room| compared.band(both, handle, ends, [room; 2]).0.more);
+    let more = rooms
+        .into_iter()
+        .map(|room| compared.band(both, handle, ends, [room; 2]).0.more);
     more.sum()
 }
 

@@ -1,5 +1,6 @@
-//! Inserts at long paths: keys that halve the gap each time, until a path has 24 nodes and the whole
-//! tree is built afresh, and due nodes far down a chain, whose tidying may be put off for depth.
+//! Inserts at long paths: keys that halve the gap each time, until a path has 24 nodes and the
+//! whole tree is built afresh, and due nodes far down a chain, whose tidying may be put off for
+//! depth.
 
 use super::compared::{Both, Compared};
 use super::crafted::{self, Craft, CHAIN_END, CHAIN_SLOTS};
@@ -42,7 +43,10 @@ pub fn compare(compared: &mut Compared, random: &mut Random) {
     println!("  conflict at a path of 23 nodes: {}", paths.conflict_at_23);
     println!("  no conflict at a path of 24: {}", paths.no_conflict_at_24);
     println!("  conflict at a path of 24: {}", paths.conflict_at_24);
-    println!("  put off for depth, with room: {}", paths.put_off_for_depth);
+    println!(
+        "  put off for depth, with room: {}",
+        paths.put_off_for_depth
+    );
     let counts = [
         paths.conflict_at_23,
         paths.no_conflict_at_24,
@@ -84,7 +88,11 @@ fn halving(
         slots: random.between(120, 500) as usize,
     };
     let centre = random.below(KEY_END);
-    let first: Vec<u64> = if random.one_in(4) { vec![centre] } else { vec![] };
+    let first: Vec<u64> = if random.one_in(4) {
+        vec![centre]
+    } else {
+        vec![]
+    };
     let mut store = Store::loaded(sizes, &first)?;
     let mut too_deep: Option<(Store, u64)> = None;
     compared.about = format!("{sizes:?}, keys ever nearer to {centre}");
@@ -92,7 +100,11 @@ fn halving(
     let below = random.between(0, 4);
     let noise = random.between(1, 12);
     let away = |bit: u64| {
-        let more = if random.one_in(noise) { random.below(1 << (bit / 2)) } else { 0 };
+        let more = if random.one_in(noise) {
+            random.below(1 << (bit / 2))
+        } else {
+            0
+        };
         (1 << bit) + more
     };
     let aways: Vec<u64> = [0].into_iter().chain((0..47).rev().map(away)).collect();
@@ -148,12 +160,7 @@ fn harmed_whole(compared: &mut Compared, store: &Store, key: u64, random: &mut R
 
 /// One node of a chain or of the tree below it due, with plenty of room or little, and at times
 /// with some harm done.
-fn due_below_chain(
-    compared: &mut Compared,
-    above: usize,
-    random: &mut Random,
-    paths: &mut Paths,
-) {
+fn due_below_chain(compared: &mut Compared, above: usize, random: &mut Random, paths: &mut Paths) {
     let n = random.between(1, 50) as usize;
     let keys = below_chain_end(deep_list(n, random));
     let room = if random.one_in(3) { (3, 12) } else { (60, 400) };
@@ -177,25 +184,27 @@ fn due_below_chain(
 
 /// A node with a slot for every key it may get, low on its path: built afresh its subtree would be
 /// deeper, and too deep there.
-fn wide_below_chain(
-    compared: &mut Compared,
-    above: usize,
-    random: &mut Random,
-    paths: &mut Paths,
-) {
+fn wide_below_chain(compared: &mut Compared, above: usize, random: &mut Random, paths: &mut Paths) {
     let w = random.between(100, 900);
     let mut craft = Craft::new(above + 80, CHAIN_SLOTS as usize * above + 2_000);
     let chain = crafted::chain(&mut craft, above, random).expect("room for the chain");
     let wide = craft.node(0, w, w + 2).expect("room for the node");
     craft.hang(chain[above - 1], 1, wide);
     let n = random.between(3, 40) as usize;
-    let mut keys: Vec<u64> = deep_list(n, random).into_iter().map(|key| key % w).collect();
+    let mut keys: Vec<u64> = deep_list(n, random)
+        .into_iter()
+        .map(|key| key % w)
+        .collect();
     keys.sort_unstable();
     keys.dedup();
     for &key in &keys {
         craft.data(wide, key + 1, key);
     }
-    let due = if random.one_in(2) { wide } else { chain[above - 1 - random.below(3) as usize] };
+    let due = if random.one_in(2) {
+        wide
+    } else {
+        chain[above - 1 - random.below(3) as usize]
+    };
     craft.mem.put_counters(due, 200, 200);
     let count = keys.len() as u64;
     let store = craft.store(chain[0], count, count + 1 + random.below(2));

@@ -7,8 +7,8 @@ use crate::model::KEY_END;
 use crate::random::Random;
 use crate::store::answers::*;
 use crate::store::calls;
-use crate::store::pools::{Mem, Record, Scratch, Slot};
 use crate::store::insert::insert;
+use crate::store::pools::{Mem, Record, Scratch, Slot};
 
 pub fn compare(compared: &mut Compared, _: &mut Random) {
     for (name, holds) in ROWS {
@@ -31,7 +31,10 @@ const ROWS: [Row; 10] = [
     ("P11", p11),
     ("P12", p12),
     ("the session's example", session),
-    ("a tidying with a two-key node, P4 with its root due", tidied_p4),
+    (
+        "a tidying with a two-key node, P4 with its root due",
+        tidied_p4,
+    ),
     ("the first tidying of the empty root", first_tidying),
 ];
 
@@ -154,10 +157,18 @@ fn tidied_p4() -> bool {
         places: vec![7; 100],
     };
     let answer = insert(store.handle, 1, 9, &mut store.mem, &mut scratch);
-    let root = store.mem.record(4).map(|record| (record.start, record.elements, record.built));
+    let root = store
+        .mem
+        .record(4)
+        .map(|record| (record.start, record.elements, record.built));
     let bare = |record: Option<Record>| record.is_some_and(|record| record.l == 0);
     let zeros = |list: &[u64]| list.iter().take_while(|&&word| word == 0).count();
-    (answer.number, answer.conflict, answer.tidying, answer.handle.root) == (DONE, 1, TIDIED, 4)
+    (
+        answer.number,
+        answer.conflict,
+        answer.tidying,
+        answer.handle.root,
+    ) == (DONE, 1, TIDIED, 4)
         && root == Some((24, 7, 7))
         && (0..4).all(|number| bare(store.mem.record(number)) && !store.mem.record_used(number))
         && [&scratch.keys, &scratch.payloads, &scratch.places].map(|list| zeros(list)) == [7; 3]

@@ -101,7 +101,11 @@ fn some_counters(random: &mut Random) -> (u64, u64, u64) {
             (elements, built, near(bound, random))
         }
         // plainly due
-        4 => (random.between(63, 300), random.below(30), random.between(30, 300)),
+        4 => (
+            random.between(63, 300),
+            random.below(30),
+            random.between(30, 300),
+        ),
         5 => {
             let stop = COUNTER_STOP;
             let built = [0, stop / 2, stop / 2 + 1, stop][random.below(4) as usize];
@@ -109,14 +113,29 @@ fn some_counters(random: &mut Random) -> (u64, u64, u64) {
         }
         6 => {
             let tenth = COUNTER_STOP.div_ceil(10);
-            (near(COUNTER_STOP, random), random.below(12), near(tenth, random))
+            (
+                near(COUNTER_STOP, random),
+                random.below(12),
+                near(tenth, random),
+            )
         }
         _ => [(); 3].map(|()| any_counter(random)).into(),
     }
 }
 
 fn any_counter(random: &mut Random) -> u64 {
-    let values = [0, 1, 63, 64, 1 << 31, 1 << 32, (1 << 32) + 64, 1 << 63, u64::MAX - 1, u64::MAX];
+    let values = [
+        0,
+        1,
+        63,
+        64,
+        1 << 31,
+        1 << 32,
+        (1 << 32) + 64,
+        1 << 63,
+        u64::MAX - 1,
+        u64::MAX,
+    ];
     match random.below(2) {
         0 => values[random.below(10) as usize],
         _ => random.of_bits(40),
@@ -125,13 +144,17 @@ fn any_counter(random: &mut Random) -> u64 {
 
 /// Marks most unused places, so that few records and one or two short runs are left.
 pub fn leave_few(mem: &mut Mem, random: &mut Random) -> String {
-    let records: Vec<u64> = (0..mem.records()).filter(|&r| !mem.record_used(r)).collect();
+    let records: Vec<u64> = (0..mem.records())
+        .filter(|&r| !mem.record_used(r))
+        .collect();
     let left = random.below(8);
     let records = stores::shuffled(records, random);
     for &record in records.iter().skip(left as usize) {
         mem.mark_record(record, true);
     }
-    let slots: Vec<u64> = (0..mem.slot_count()).filter(|&q| !mem.slot_used(q)).collect();
+    let slots: Vec<u64> = (0..mem.slot_count())
+        .filter(|&q| !mem.slot_used(q))
+        .collect();
     let runs = [0, 1].map(|_| some_run(slots.len(), random));
     for (at, &slot) in slots.iter().enumerate() {
         if !runs.iter().any(|run| run.contains(&at)) {

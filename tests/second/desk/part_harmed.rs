@@ -104,7 +104,10 @@ fn odd_insert(compared: &mut Compared, both: &mut Both, random: &mut Random) {
 fn widen(store: &mut Store, random: &mut Random) {
     let (records, slots) = (store.mem.records(), store.mem.slot_count());
     let (more_records, more_slots) = (random.below(8), random.below(120));
-    let mut wide = Mem::zeros((records + more_records) as usize, (slots + more_slots) as usize);
+    let mut wide = Mem::zeros(
+        (records + more_records) as usize,
+        (slots + more_slots) as usize,
+    );
     wide.nodes[..store.mem.nodes.len()].copy_from_slice(&store.mem.nodes);
     wide.slots[..store.mem.slots.len()].copy_from_slice(&store.mem.slots);
     for record in (0..records).filter(|&record| store.mem.record_used(record)) {
@@ -134,7 +137,11 @@ fn unmarked_above(compared: &mut Compared, both: &mut Both, random: &mut Random)
     let keys: Vec<u64> = (0..n).map(|i| 10 * i + random.below(9)).collect();
     let room = (random.between(1, 8) as usize, random.below(30) as usize);
     let mut store = crafted::chain_over(nodes, &keys, room, random);
-    let chain: Vec<u64> = damage::nodes_of(&store.mem).iter().take(nodes).map(|node| node.0).collect();
+    let chain: Vec<u64> = damage::nodes_of(&store.mem)
+        .iter()
+        .take(nodes)
+        .map(|node| node.0)
+        .collect();
     let part = random.between(1, 3);
     for &number in &chain {
         let record = store.mem.record(number).expect("made here");
@@ -144,8 +151,8 @@ fn unmarked_above(compared: &mut Compared, both: &mut Both, random: &mut Random)
             }
         }
     }
-    let due = random.one_in(4);
-    if !due {
+    let some_due = !random.one_in(4);
+    if some_due {
         let tops = damage::nodes_of(&store.mem);
         let top = tops[(nodes + random.below(2) as usize).min(tops.len() - 1)].0;
         store.mem.put_counters(top, 1 << 20, 1 << 20);

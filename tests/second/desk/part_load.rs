@@ -43,7 +43,11 @@ fn lengths_for(records: usize, slots: usize) -> Lengths {
 /// Lists of these lengths full of any words.
 fn junk(lengths: Lengths, random: &mut Random) -> Mem {
     let seed = random.any();
-    let words = |count: usize| (0..count as u64).map(|i| seed.rotate_left(i as u32) ^ i).collect();
+    let words = |count: usize| {
+        (0..count as u64)
+            .map(|i| seed.rotate_left(i as u32) ^ i)
+            .collect()
+    };
     Mem {
         nodes: words(lengths.nodes),
         slots: words(lengths.slots),

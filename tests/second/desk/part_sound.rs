@@ -38,6 +38,14 @@ pub fn compare(compared: &mut Compared, random: &mut Random) {
         }
     }
     large(compared, random);
+    if library::has("insert") {
+        for _ in 0..20 {
+            deep(compared, random);
+        }
+        if compared.times_tidying(1, WHOLE_TREE) == 0 {
+            compared.wrong("no whole tree was built afresh");
+        }
+    }
 }
 
 /// A store, the map that it should be, and keys to draw from.
@@ -93,7 +101,11 @@ fn begin(compared: &mut Compared, sizes: Sizes, random: &mut Random) -> Option<C
     };
     compared.about = format!("{sizes:?}, {name}, {n} keys to draw from");
     let part = random.between(1, 9);
-    let first: Vec<u64> = pool.iter().copied().filter(|_| random.one_in(part)).collect();
+    let first: Vec<u64> = pool
+        .iter()
+        .copied()
+        .filter(|_| random.one_in(part))
+        .collect();
     load(compared, sizes, &first, pool)
 }
 
@@ -201,7 +213,9 @@ impl Course {
             None => answer.number == NOT_HELD && answer.visits >= 1,
         };
         if !right {
-            compared.wrong(&format!("lookup of {key} answers {answer:?}, found {there:?}"));
+            compared.wrong(&format!(
+                "lookup of {key} answers {answer:?}, found {there:?}"
+            ));
         }
     }
 
@@ -210,12 +224,17 @@ impl Course {
         let room = random.below(self.map.len() as u64 + 3) as usize;
         let (answer, keys, payloads) =
             compared.band(&mut self.both, self.handle, (key, far), [room; 2]);
-        let mut all = self.map.range(key..=far).map(|(&key, &payload)| (key, payload));
+        let mut all = self
+            .map
+            .range(key..=far)
+            .map(|(&key, &payload)| (key, payload));
         let listed: Vec<(u64, u64)> = all.by_ref().take(room).collect();
         let more = u64::from(all.next().is_some());
         let theirs: Vec<(u64, u64)> = keys.into_iter().zip(payloads).collect();
         if answer.number != DONE || theirs != listed || answer.more != more {
-            compared.wrong(&format!("band of {key} to {far} into {room} answers {answer:?}"));
+            compared.wrong(&format!(
+                "band of {key} to {far} into {room} answers {answer:?}"
+            ));
         }
         self.check(compared);
     }
@@ -247,5 +266,18 @@ fn large(compared: &mut Compared, random: &mut Random) {
                 course.delete(compared, pool[random.below(n as u64) as usize]);
             }
         }
+    }
+}
+
+/// Keys that halve the distance to one key, until a path has 24 nodes, and on.
+fn deep(compared: &mut Compared, random: &mut Random) {
+    let centre = random.below(KEY_END / 2);
+    compared.about = format!("keys ever nearer to {centre}");
+    let Some(mut course) = load(compared, sizes(80, 90, 500), &[], vec![centre]) else {
+        compared.wrong("no room for nothing");
+    };
+    course.insert(compared, centre);
+    for bit in (0..47).rev() {
+        course.insert(compared, centre + (1 << bit));
     }
 }

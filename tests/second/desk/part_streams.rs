@@ -59,7 +59,11 @@ fn stream(compared: &mut Compared, sizes: Sizes, random: &mut Random) -> u64 {
         stores::crowded(n, random)
     };
     let part = random.between(1, 12);
-    let first: Vec<u64> = pool.iter().copied().filter(|_| random.one_in(part)).collect();
+    let first: Vec<u64> = pool
+        .iter()
+        .copied()
+        .filter(|_| random.one_in(part))
+        .collect();
     let Some(store) = Store::loaded(sizes, &first) else {
         return 0;
     };
@@ -166,7 +170,9 @@ fn large(compared: &mut Compared, random: &mut Random) {
             slots: 24_000,
         };
         let mut store = Store::loaded(sizes, &keys).expect("there is room");
-        store.mem.put_counters(store.handle.root, 2 * n as u64 - 1, 2 * n as u64);
+        store
+            .mem
+            .put_counters(store.handle.root, 2 * n as u64 - 1, 2 * n as u64);
         compared.about = format!("{n} keys, the root with as many conflicts");
         let mut course = Course::new(store);
         for _ in 0..3 {

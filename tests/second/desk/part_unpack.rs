@@ -7,7 +7,16 @@ use crate::sounding::{key_of, LEAST_DEPTH, MOST_DEPTH, MOST_NUMBER};
 use crate::store::answers::{DONE, RANGE};
 
 pub fn compare(compared: &mut Compared, random: &mut Random) {
-    for depth in [LEAST_DEPTH, LEAST_DEPTH + 1, -150, -1, 0, 1, MOST_DEPTH - 1, MOST_DEPTH] {
+    for depth in [
+        LEAST_DEPTH,
+        LEAST_DEPTH + 1,
+        -150,
+        -1,
+        0,
+        1,
+        MOST_DEPTH - 1,
+        MOST_DEPTH,
+    ] {
         for number in [0, 1, 7, MOST_NUMBER - 1, MOST_NUMBER] {
             compared.unpack(key_of(depth, number).expect("in range"));
         }

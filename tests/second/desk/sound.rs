@@ -84,11 +84,18 @@ impl Reading<'_> {
         let l_right = record.built > 0 && record.l == slots_for(record.built as usize);
         let right = (l_right || empty_root) && in_range(record.lo, record.w, record.l);
         hold(right, || format!("the model of record {number}"))?;
-        hold(self.above.len() < MOST_PATH, || "a path past 24".to_string())?;
+        hold(self.above.len() < MOST_PATH, || {
+            "a path past 24".to_string()
+        })?;
         let eighth = self.mem.nodes[number as usize * RECORD_WORDS + RECORD_WORDS - 1];
-        hold(eighth == 0, || format!("the eighth word of record {number}"))?;
+        hold(eighth == 0, || {
+            format!("the eighth word of record {number}")
+        })?;
         for place in record.start..record.start + record.l {
-            let taken = self.slot_taken.get_mut(place as usize).ok_or("a run outside")?;
+            let taken = self
+                .slot_taken
+                .get_mut(place as usize)
+                .ok_or("a run outside")?;
             hold(!*taken, || format!("slot {place} in two runs"))?;
             *taken = true;
         }
@@ -100,7 +107,9 @@ impl Reading<'_> {
         let (first, second) = (self.mem.slots[at], self.mem.slots[at + 1]);
         let value = first & ((1 << 48) - 1);
         match first >> 48 {
-            0 => hold(first == 0 && second == 0, || format!("NULL slot {place} not zero"))?,
+            0 => hold(first == 0 && second == 0, || {
+                format!("NULL slot {place} not zero")
+            })?,
             1 => {
                 self.key(value, second)?;
                 return Ok(1);
@@ -115,8 +124,11 @@ impl Reading<'_> {
     }
 
     fn key(&mut self, key: u64, payload: u64) -> Result<(), String> {
-        let sent = |(record, slot): &(Record, u64)| slot_of(key, record.lo, record.w, record.l) == *slot;
-        hold(self.above.iter().all(sent), || format!("key {key} is sent elsewhere"))?;
+        let sent =
+            |(record, slot): &(Record, u64)| slot_of(key, record.lo, record.w, record.l) == *slot;
+        hold(self.above.iter().all(sent), || {
+            format!("key {key} is sent elsewhere")
+        })?;
         let rises = self.found.last().is_none_or(|last| last.key < key);
         hold(rises, || format!("key {key} does not rise"))?;
         let visits = self.above.len() as u64;
@@ -133,8 +145,12 @@ impl Reading<'_> {
         let taken = self.record_taken.iter().chain(&self.slot_taken).copied();
         let mut places = 0..64 * self.mem.used.len() as u64;
         let taken = taken.chain(std::iter::repeat(false));
-        let wrong = taken.zip(&mut places).find(|&(taken, place)| is_marked(&self.mem.used, place) != taken);
-        hold(wrong.is_none(), || format!("the mark of a place: {wrong:?}"))?;
+        let wrong = taken
+            .zip(&mut places)
+            .find(|&(taken, place)| is_marked(&self.mem.used, place) != taken);
+        hold(wrong.is_none(), || {
+            format!("the mark of a place: {wrong:?}")
+        })?;
         rest_zero(&self.mem.nodes, RECORD_WORDS, &self.record_taken)?;
         rest_zero(&self.mem.slots, SLOT_WORDS, &self.slot_taken)
     }

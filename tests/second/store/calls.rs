@@ -8,7 +8,6 @@ use super::marks::Marks;
 use super::pools::{Mem, Slot, CAPACITY};
 use super::walk::{follow, Path};
 use crate::model::KEY_END;
-use crate::sounding;
 
 /// The sounding of a key, the other way round from packing.
 pub fn unpack(key: u64) -> Sounding {
@@ -18,11 +17,11 @@ pub fn unpack(key: u64) -> Sounding {
             ..Sounding::default()
         };
     }
-    let (depth, sounding) = sounding::sounding_of(key);
+    let deeper = i64::try_from(key / 268_435_456).expect("a key is below 2^48");
     Sounding {
         number: DONE,
-        depth,
-        sounding,
+        depth: deeper - 20_000,
+        sounding: key % 268_435_456,
     }
 }
 

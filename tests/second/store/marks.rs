@@ -23,7 +23,9 @@ pub fn words_for(records: usize, slots: usize) -> usize {
 
 /// Whether a place is marked. A place past the words is not.
 pub fn is_marked(words: &[u64], place: u64) -> bool {
-    let word = usize::try_from(place / 64).ok().and_then(|at| words.get(at));
+    let word = usize::try_from(place / 64)
+        .ok()
+        .and_then(|at| words.get(at));
     word.is_some_and(|word| word >> (place % 64) & 1 == 1)
 }
 

@@ -6,8 +6,6 @@ use Rattle.desk.specs.Passing.{passChanging}
 use borrow.Author.Needs.{needs}
 use Rattle.desk.proofs.passed.Statement.{statement}
 use Rattle.desk.proofs.passed.Tie as tie
-use Rattle.desk.proofs.passed.Reads as reads
-use Rattle.desk.proofs.passed.Lts as lts
 
 enum-told : tie.Need-enum-told
 enum-told c = search needs

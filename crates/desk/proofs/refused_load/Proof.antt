@@ -2,9 +2,6 @@
 use borrow.Author.Needs.{needs}
 use Rattle.desk.proofs.refused_load.Statement.{statement}
 use Rattle.desk.proofs.refused_load.Tie as tie
-use Rattle.desk.proofs.refused_load.Reads as reads
-use Rattle.desk.proofs.refused_load.Lts as lts
-use Rattle.store.proofs.Handle.new.Reads as new-reads
 
 new-requires : tie.Need-new-requires
 new-requires c κs = search needs

@@ -1,13 +1,9 @@
 -- `desk::soorqabiye_delete` meets its contract: the call's answer, passed on. Assumes nothing.
-use mathlib.Core.Path.{_≡_, sym, ap, _∙_}
-use Rattle.desk.specs.Passing.{passChange, passChanging, change}
+use mathlib.Core.Path.{ap}
+use Rattle.desk.specs.Passing.{passChange, passChanging}
 use borrow.Author.Needs.{needs}
 use Rattle.desk.proofs.soorqabiye_delete.Statement.{statement}
 use Rattle.desk.proofs.soorqabiye_delete.Tie as tie
-use Rattle.desk.proofs.soorqabiye_delete.Reads as reads
-use Rattle.desk.proofs.soorqabiye_delete.Lts as lts
-use Rattle.desk.proofs.passed.Reads as passed-reads
-use Rattle.store.proofs.delete.Reads as delete-reads
 
 delete-requires : tie.Need-delete-requires
 delete-requires c κs = search needs

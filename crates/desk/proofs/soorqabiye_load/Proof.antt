@@ -9,10 +9,6 @@ use Rattle.desk.specs.Passing.{passLoad}
 use borrow.Author.Needs.{needs}
 use Rattle.desk.proofs.soorqabiye_load.Statement.{statement}
 use Rattle.desk.proofs.soorqabiye_load.Tie as tie
-use Rattle.desk.proofs.soorqabiye_load.Reads as reads
-use Rattle.desk.proofs.soorqabiye_load.Lts as lts
-use Rattle.desk.proofs.refused_load.Reads as refused-load-reads
-use Rattle.store.proofs.load.Reads as load-reads
 
 -- the answer of the case that came, over the memory left
 passed : (l : Loaded) (m : Mem) (x : Call) → loaded l m ≡ x → (k : Loaded) → l ≡ k → passLoad (loaded k m) ≡ passLoad x

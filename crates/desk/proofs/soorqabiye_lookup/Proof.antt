@@ -7,10 +7,6 @@ use Rattle.desk.specs.Passing.{passLooked}
 use borrow.Author.Needs.{needs}
 use Rattle.desk.proofs.soorqabiye_lookup.Statement.{statement}
 use Rattle.desk.proofs.soorqabiye_lookup.Tie as tie
-use Rattle.desk.proofs.soorqabiye_lookup.Reads as reads
-use Rattle.desk.proofs.soorqabiye_lookup.Lts as lts
-use Rattle.desk.proofs.refused_look.Reads as refused-look-reads
-use Rattle.store.proofs.lookup.Reads as lookup-reads
 
 lookup-requires : tie.Need-lookup-requires
 lookup-requires c κs = search needs

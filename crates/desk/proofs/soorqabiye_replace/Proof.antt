@@ -1,13 +1,9 @@
 -- `desk::soorqabiye_replace` meets its contract: the call's answer, passed on. Assumes nothing.
-use mathlib.Core.Path.{_≡_, sym, ap, _∙_}
-use Rattle.desk.specs.Passing.{passChange, passChanging, change}
+use mathlib.Core.Path.{ap}
+use Rattle.desk.specs.Passing.{passChange, passChanging}
 use borrow.Author.Needs.{needs}
 use Rattle.desk.proofs.soorqabiye_replace.Statement.{statement}
 use Rattle.desk.proofs.soorqabiye_replace.Tie as tie
-use Rattle.desk.proofs.soorqabiye_replace.Reads as reads
-use Rattle.desk.proofs.soorqabiye_replace.Lts as lts
-use Rattle.desk.proofs.passed.Reads as passed-reads
-use Rattle.store.proofs.replace.Reads as replace-reads
 
 replace-requires : tie.Need-replace-requires
 replace-requires c κs = search needs

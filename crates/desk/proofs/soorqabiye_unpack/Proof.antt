@@ -3,7 +3,6 @@ use lib.IntN.{ℤ}
 use mir.Syntax.{w64}
 use mir.Val.{SFits}
 use mir.ValLaws.{toZ-ofZ}
-use Rattle.desk.specs.declared.SoundingAnswer.{SoundingAnswer}
 use mathlib.Core.Path.{_≡_, sym, ap, _∙_}
 use Rattle.sounding.specs.Studio.{unpacked}
 use Rattle.sounding.specs.declared.Unpacked.{Unpacked}
@@ -12,9 +11,6 @@ use Rattle.desk.specs.Passing.{passSounding}
 use borrow.Author.Needs.{needs}
 use Rattle.desk.proofs.soorqabiye_unpack.Statement.{statement}
 use Rattle.desk.proofs.soorqabiye_unpack.Tie as tie
-use Rattle.desk.proofs.soorqabiye_unpack.Reads as reads
-use Rattle.desk.proofs.soorqabiye_unpack.Lts as lts
-use Rattle.sounding.proofs.unpack.Reads as unpack-reads
 
 unpack-requires : tie.Need-unpack-requires
 unpack-requires c κs = search needs

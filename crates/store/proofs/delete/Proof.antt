@@ -1,19 +1,12 @@
 -- `store::delete` meets its contract: what it makes of the search (proofs/Searching). Assumes nothing.
-use mathlib.Core.Path.{_≡_, sym, ap, _∙_}
+use mathlib.Core.Path.{_≡_, sym, _∙_}
 use native.Mathlib.Omega.{arith}
-use borrow.Author.Tests.{le-leb, lt-leb}
 use Rattle.store.specs.Calls.{changed}
 use Rattle.store.specs.declared.Search.the-variants.{OutOfRange, WrongSizes, Damage}
 use Rattle.store.proofs.Searching.{delete-by, delete-none, delete-done, search-within}
 use borrow.Author.Needs.{needs}
 use Rattle.store.proofs.delete.Statement.{statement}
 use Rattle.store.proofs.delete.Tie as tie
-use Rattle.store.proofs.delete.Reads as reads
-use Rattle.store.proofs.delete.Lts as lts
-use Rattle.pool.proofs.put_null.Reads as put-null-reads
-use Rattle.store.proofs.Handle.new.Reads as new-reads
-use Rattle.store.proofs.find.Reads as find-reads
-use Rattle.store.proofs.unchanged.Reads as unchanged-reads
 
 find-requires : tie.Need-find-requires
 find-requires c κs = search needs

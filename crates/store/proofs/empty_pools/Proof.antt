@@ -3,9 +3,6 @@ use Rattle.store.specs.Loading.{emptied}
 use borrow.Author.Needs.{needs}
 use Rattle.store.proofs.empty_pools.Statement.{statement}
 use Rattle.store.proofs.empty_pools.Tie as tie
-use Rattle.store.proofs.empty_pools.Reads as reads
-use Rattle.store.proofs.empty_pools.Lts as lts
-use Rattle.pool.proofs.zero_all.Reads as zero-all-reads
 
 zero-all-requires : tie.Need-zero-all-requires
 zero-all-requires c κs = search needs

@@ -1,5 +1,5 @@
 -- `store::find` meets its contract: a law for each way out (proofs/Searching). Assumes nothing.
-use mathlib.Core.Path.{_≡_, refl, sym, _∙_}
+use mathlib.Core.Path.{refl, sym, _∙_}
 use native.Mathlib.Omega.{arith}
 use borrow.Author.Tests.{not-true, not-false}
 use Rattle.store.specs.Calls.{searchEnd}
@@ -7,10 +7,6 @@ use Rattle.store.proofs.Searching.{search-sizes, search-range, search-e
 use borrow.Author.Needs.{needs}
 use Rattle.store.proofs.find.Statement.{statement}
 use Rattle.store.proofs.find.Tie as tie
-use Rattle.store.proofs.find.Reads as reads
-use Rattle.store.proofs.find.Lts as lts
-use Rattle.store.proofs.Handle.fits.Reads as fits-reads
-use Rattle.walk.proofs.follow.Reads as follow-reads
 
 fits-requires : tie.Need-fits-requires
 fits-requires c κs = search needs

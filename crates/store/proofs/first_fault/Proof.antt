@@ -10,8 +10,6 @@ use Rattle.store.proofs.Faults.{fault-none, fault-range, fault-fall, fa
 use borrow.Author.Needs.{needs}
 use Rattle.store.proofs.first_fault.Statement.{statement}
 use Rattle.store.proofs.first_fault.Tie as tie
-use Rattle.store.proofs.first_fault.Reads as reads
-use Rattle.store.proofs.first_fault.Lts as lts
 
 abbrev Inv-loop : tie.InvT-loop
 Inv-loop keys least₀ i₀ least i = (i ≤ length keys) × (least ≤ keyBound) × (faultFrom i least (drop i keys) ≡ firstFault keys)

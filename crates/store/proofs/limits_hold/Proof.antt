@@ -3,8 +3,6 @@ use native.Mathlib.Omega.{arith}
 use Rattle.store.proofs.Fitting.{limits-pass, limits-fail}
 use Rattle.store.proofs.limits_hold.Statement.{statement}
 use Rattle.store.proofs.limits_hold.Tie as tie
-use Rattle.store.proofs.limits_hold.Reads as reads
-use Rattle.store.proofs.limits_hold.Lts as lts
 
 returns : tie.Need-returns
 returns c = limits-fail _ _ _ (λ h. omega arith)

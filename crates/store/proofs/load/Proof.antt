@@ -1,17 +1,11 @@
 -- `store::load` meets its contract: a law for each way out (proofs/Loads). Assumes nothing.
 use mathlib.Core.Path.{_≡_, sym, _∙_}
-use native.Mathlib.Omega.{arith}
 use borrow.Author.Tests.{not-true, not-false}
 use Rattle.store.proofs.Loads.{loadable, load-sizes, load-full, load-range, load-fall, load-tree}
 use Rattle.store.specs.declared.Fault.the-variants.{Nothing, OutOfRange}
 use borrow.Author.Needs.{needs}
 use Rattle.store.proofs.load.Statement.{statement}
 use Rattle.store.proofs.load.Tie as tie
-use Rattle.store.proofs.load.Reads as reads
-use Rattle.store.proofs.load.Lts as lts
-use Rattle.store.proofs.first_fault.Reads as first-fault-reads
-use Rattle.store.proofs.load_fits.Reads as load-fits-reads
-use Rattle.store.proofs.load_rising.Reads as load-rising-reads
 
 load-fits-requires : tie.Need-load-fits-requires
 load-fits-requires c κs = search needs

@@ -1,9 +1,8 @@
 -- `store::load_afresh` meets its contract: the pools are zeros, so the build is the definition's, and it has room (proofs/Loads).
 -- Assumes nothing.
-use mathlib.Core.Path.{_≡_, sym, subst, _∙_, ap}
+use mathlib.Core.Path.{_≡_, _∙_, ap}
 use native.Mathlib.Omega.{arith}
-use Rattle.build.specs.Hints.{Hinted, Builds}
-use Rattle.build.specs.Building.{out, build}
+use Rattle.build.specs.Building.{build}
 use Rattle.build.specs.declared.Built.the-variants.{NoRoom}
 use Rattle.pool.specs.Memory.{Mem}
 use Rattle.walk.specs.Walks.{longestPath}
@@ -11,11 +10,6 @@ use Rattle.store.proofs.Loads.{empty-sized, load-done, load-cannot}
 use borrow.Author.Needs.{needs}
 use Rattle.store.proofs.load_afresh.Statement.{statement}
 use Rattle.store.proofs.load_afresh.Tie as tie
-use Rattle.store.proofs.load_afresh.Reads as reads
-use Rattle.store.proofs.load_afresh.Lts as lts
-use Rattle.build.proofs.build_node.Reads as build-node-reads
-use Rattle.store.proofs.Handle.new.Reads as new-reads
-use Rattle.store.proofs.empty_pools.Reads as empty-pools-reads
 
 empty-pools-requires : tie.Need-empty-pools-requires
 empty-pools-requires c κs = search needs

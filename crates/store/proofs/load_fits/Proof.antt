@@ -6,10 +6,6 @@ use Rattle.store.proofs.Loads.{load-no-limits, load-no-pools, load-list
 use borrow.Author.Needs.{needs}
 use Rattle.store.proofs.load_fits.Statement.{statement}
 use Rattle.store.proofs.load_fits.Tie as tie
-use Rattle.store.proofs.load_fits.Reads as reads
-use Rattle.store.proofs.load_fits.Lts as lts
-use Rattle.store.proofs.limits_hold.Reads as limits-hold-reads
-use Rattle.store.proofs.pools_are.Reads as pools-are-reads
 
 limits-hold-requires : tie.Need-limits-hold-requires
 limits-hold-requires c κs = search needs

@@ -1,5 +1,5 @@
 -- `store::load_rising` meets its contract: the sums of the sizes decide (proofs/Loads). Assumes nothing.
-use mathlib.Core.Path.{_≡_, sym, _∙_, ap}
+use mathlib.Core.Path.{ap}
 use native.Mathlib.Omega.{arith}
 use Rattle.build.specs.Counting.{needsOf}
 use Rattle.build.specs.declared.sizes.Needs.{Needs}
@@ -7,10 +7,6 @@ use Rattle.store.proofs.Loads.{load-roomless}
 use borrow.Author.Needs.{needs}
 use Rattle.store.proofs.load_rising.Statement.{statement}
 use Rattle.store.proofs.load_rising.Tie as tie
-use Rattle.store.proofs.load_rising.Reads as reads
-use Rattle.store.proofs.load_rising.Lts as lts
-use Rattle.build.proofs.sizes.sizes.Reads as sizes-reads
-use Rattle.store.proofs.load_afresh.Reads as load-afresh-reads
 
 slice-aggregate-sizes : tie.Need-slice-aggregate-sizes
 slice-aggregate-sizes c = search needs

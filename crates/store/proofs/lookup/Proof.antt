@@ -7,9 +7,6 @@ use Rattle.store.proofs.Searching.{lookup-by, search-within}
 use borrow.Author.Needs.{needs}
 use Rattle.store.proofs.lookup.Statement.{statement}
 use Rattle.store.proofs.lookup.Tie as tie
-use Rattle.store.proofs.lookup.Reads as reads
-use Rattle.store.proofs.lookup.Lts as lts
-use Rattle.store.proofs.find.Reads as find-reads
 
 find-requires : tie.Need-find-requires
 find-requires c κs = search needs

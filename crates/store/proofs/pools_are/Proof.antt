@@ -3,8 +3,6 @@ use Rattle.store.proofs.Fitting.{pools-fail, pools-last}
 use borrow.Author.Needs.{needs}
 use Rattle.store.proofs.pools_are.Statement.{statement}
 use Rattle.store.proofs.pools_are.Tie as tie
-use Rattle.store.proofs.pools_are.Reads as reads
-use Rattle.store.proofs.pools_are.Lts as lts
 
 mul-if1 : tie.Need-mul-if1
 mul-if1 c = search needs

@@ -1,17 +1,12 @@
 -- `store::replace` meets its contract: what it makes of the search (proofs/Searching). Assumes nothing.
-use mathlib.Core.Path.{_≡_, sym, ap, _∙_}
+use mathlib.Core.Path.{_≡_, sym, _∙_}
 use native.Mathlib.Omega.{arith}
-use lib.ListN.{length-set}
 use Rattle.store.specs.Calls.{changed}
 use Rattle.store.specs.declared.Search.the-variants.{OutOfRange, WrongSizes, Damage}
 use Rattle.store.proofs.Searching.{replace-by, search-within}
 use borrow.Author.Needs.{needs}
 use Rattle.store.proofs.replace.Statement.{statement}
 use Rattle.store.proofs.replace.Tie as tie
-use Rattle.store.proofs.replace.Reads as reads
-use Rattle.store.proofs.replace.Lts as lts
-use Rattle.store.proofs.find.Reads as find-reads
-use Rattle.store.proofs.unchanged.Reads as unchanged-reads
 
 find-requires : tie.Need-find-requires
 find-requires c κs = search needs

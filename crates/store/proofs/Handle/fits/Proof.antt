@@ -1,15 +1,10 @@
 -- `store::Handle::fits` meets its contract (proofs/Fitting). Assumes nothing.
 use mathlib.Core.Path.{sym, _∙_}
-use native.Mathlib.Omega.{arith}
 use borrow.Author.Tests.{not-true, not-false}
 use Rattle.store.proofs.Fitting.{limits-given, fits-no-limits, fits-no-pools, fits-count}
 use borrow.Author.Needs.{needs}
 use Rattle.store.proofs.Handle.fits.Statement.{statement}
 use Rattle.store.proofs.Handle.fits.Tie as tie
-use Rattle.store.proofs.Handle.fits.Reads as reads
-use Rattle.store.proofs.Handle.fits.Lts as lts
-use Rattle.store.proofs.limits_hold.Reads as limits-hold-reads
-use Rattle.store.proofs.pools_are.Reads as pools-are-reads
 
 limits-hold-requires : tie.Need-limits-hold-requires
 limits-hold-requires c κs = search needs
