@@ -21,7 +21,7 @@ LINK_EDGE = -L native=$(EDGE_DIR) -l static=edge
 DESK = $(EDGE_DIR)/libdesk.a
 LINK_DESK = -L native=$(EDGE_DIR) -l static=desk
 # the calls that the desk library has today; 'all' stands for every one
-DESK_CALLS = unpack load lookup replace delete band
+DESK_CALLS = unpack load lookup replace delete band insert
 DESK_CFG = $(foreach call,$(DESK_CALLS),--cfg 'desk="$(call)"')
 DESK_DEFINES = $(foreach call,$(DESK_CALLS),-DDESK_$(call))
 PROVED = crates.txt $(shell find crates -name '*.rt' -o -name '*.antt')

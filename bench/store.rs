@@ -33,7 +33,7 @@ use random::Random;
 use std::collections::BTreeMap;
 use std::hint::black_box;
 use std::time::Instant;
-use store::answers::{Handle, DONE};
+use store::answers::{Handle, Inserted, DONE};
 use store::pools::{Mem, Scratch, RECORDS, SLOTS};
 
 const SEED: u64 = 20_000;
@@ -116,14 +116,22 @@ impl Index {
         index
     }
 
-    /// The same capacity with nothing in it, and as many records and slots as there may be.
-    fn in_largest_pools(&mut self) {
-        let (records, slots) = (*RECORDS.end() as usize, *SLOTS.end() as usize);
-        self.pools.set(&Mem::zeros(records, slots));
+    /// With nothing in it, in pools of so many records and slots.
+    fn empty(capacity: u64, records: usize, slots: usize) -> Index {
+        let mut index = Index::new(capacity, &[]);
+        index.pools.set(&Mem::zeros(records, slots));
         let none = List::new(&[]);
-        let loaded = library::load(self.handle.capacity, &none, &none, &mut self.pools);
+        let loaded = library::load(capacity, &none, &none, &mut index.pools);
         assert_eq!(loaded.number, DONE, "there is room for nothing");
-        self.handle = loaded.handle;
+        index.handle = loaded.handle;
+        index
+    }
+
+    fn insert(&mut self, key: u64) -> Inserted {
+        let inserted =
+            library::insert(self.handle, key, key, &mut self.pools, &mut self.scratch);
+        self.handle = inserted.handle;
+        inserted
     }
 }
 
@@ -310,29 +318,48 @@ fn inserts(course: &Course, _: &mut Random) {
     insert_into(course, "insert", &kept, new);
 }
 
-/// All keys into an index of nothing.
+/// All keys into an index of nothing: in the largest pools, and in pools barely large enough.
 fn inserts_one_by_one(course: &Course, _: &mut Random) {
-    insert_into(course, "insert, from nothing on", &[], &course.held);
+    let keys = &course.held[..];
+    let capacity = keys.len() as u64;
+    let ample = Index::empty(capacity, *RECORDS.end() as usize, *SLOTS.end() as usize);
+    insert_from(course, "insert, from nothing on", ample, &[], keys);
+    let barely = barely_enough(capacity, keys);
+    insert_from(course, "insert, barely enough room", barely, &[], keys);
+}
+
+/// The least pools, in steps of a fifth of what a load of the keys needs, in which every insert is
+/// done.
+fn barely_enough(capacity: u64, keys: &[u64]) -> Index {
+    let mut sorted = keys.to_vec();
+    sorted.sort_unstable();
+    let (records, slots) = need(&sorted);
+    let fifths = |size: usize, most: u64, n: usize| (size * n / 5 + 64).min(most as usize);
+    (5..=40)
+        .map(|n| {
+            let (records, slots) = (fifths(records, *RECORDS.end(), n), fifths(slots, *SLOTS.end(), n));
+            Index::empty(capacity, records, slots)
+        })
+        .find(|start| {
+            let mut index = start.clone();
+            keys.iter().all(|&key| index.insert(key).number == DONE)
+        })
+        .expect("the largest pools are enough")
 }
 
 fn insert_into(course: &Course, what: &str, before: &[u64], new: &[u64]) {
-    let capacity = (before.len() + new.len()) as u64;
-    let mut start = Index::new(capacity, before);
-    if before.is_empty() {
-        start.in_largest_pools();
-    }
+    let start = Index::new((before.len() + new.len()) as u64, before);
+    insert_from(course, what, start, before, new);
+}
+
+fn insert_from(course: &Course, what: &str, start: Index, before: &[u64], new: &[u64]) {
     let ours = least(
         || start.clone(),
         |mut index| {
             for &key in new {
-                let Index {
-                    pools,
-                    scratch,
-                    handle,
-                } = &mut index;
-                *handle = library::insert(*handle, key, key, pools, scratch).handle;
+                index.insert(key);
             }
-            assert_eq!(index.handle.count, capacity, "there is room");
+            assert_eq!(index.handle.count, index.handle.capacity, "there is room");
         },
     );
     let array: Vec<(u64, u64)> = before.iter().map(|&key| (key, key)).collect();
@@ -357,6 +384,23 @@ fn insert_into(course: &Course, what: &str, before: &[u64], new: &[u64]) {
         },
     );
     course.row(what, new.len(), [ours, map, array_time]);
+    longest(start, new);
+}
+
+/// The longest of the inserts, and how many of them tidied or put it off.
+fn longest(mut index: Index, new: &[u64]) {
+    let (mut longest, mut conflicts, mut tidyings) = (0.0f64, 0, [0; 4]);
+    for &key in new {
+        let start = Instant::now();
+        let inserted = index.insert(key);
+        longest = longest.max(start.elapsed().as_secs_f64() * 1e6);
+        conflicts += inserted.conflict;
+        tidyings[inserted.tidying as usize] += 1;
+    }
+    println!(
+        "    {} records, {} slots: longest {longest:.0} µs, conflicts {conflicts}, tidied {}, put off {}, whole tree {}",
+        index.handle.records, index.handle.slots, tidyings[1], tidyings[2], tidyings[3]
+    );
 }
 
 /// The least time in nanoseconds over the repeats; what is made ready before is not counted. No

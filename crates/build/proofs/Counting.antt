@@ -25,7 +25,8 @@ use Rattle.model.specs.Groups.{keysTo}
 use Rattle.model.specs.Slots.{mostSlots, valueOf, slotOf, InRange}
 use Rattle.model.specs.declared.Choice.{Choice}
 use Rattle.model.specs.declared.Model.{Model}
-use Rattle.build.specs.Counting.{needsOf, Counts, RunEnd}
+use Rattle.build.specs.Counting.{needsOf, Counts}
+use Rattle.build.specs.Runs.{RunEnd}
 use Rattle.build.specs.Sizes.{ofGroup, sizesUnder, sizesOf, depthUnder, depthOf, total}
 use Rattle.build.specs.declared.sizes.Needs.{Needs}
 use Rattle.build.proofs.Heights.{depth-height}

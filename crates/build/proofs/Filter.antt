@@ -22,7 +22,7 @@ use Rattle.pool.specs.Memory.{Mem}
 use Rattle.pool.specs.Writing.{putData, putChild}
 use Rattle.pool.specs.declared.Node.{Node}
 use Rattle.build.specs.Building.{Out, out, next, andThen, Builder, withSlots, payloadsTo, fillSlot, fillSlots}
-use Rattle.build.specs.Runs.{groupAt}
+use Rattle.build.specs.Runs.{RunEnd, groupAt}
 use Rattle.build.specs.declared.Built.the-variants.{At, NoRoom}
 use Rattle.build.specs.declared.Built.{Built}
 
@@ -118,18 +118,13 @@ module _ (md : Model) where
         rw (le-ltb (slotOf md k) (s + 1) (omega arith), le-ltb (slotOf md k) s (omega arith), ne-eqb (slotOf md k) s (omega arith), y, z) (rw (y, z) at ih))
         (le-or-lt (slotOf md k) s)
 
-    -- the end of the run of the key at place a, as a search from a on finds it
-    module _ (ks : List ℕ) (h : Rising ks) (a b : ℕ) (after : a < b) (within : b ≤ length ks) (inside : slotAt md ks (b - 1) ≡ slotAt md ks a) where
-      run-before : (i : ℕ) → i < b → slotAt md ks i < slotAt md ks a + 1
-      run-before i lt = omega (arith, slots-rise md r ks h i (b - 1) (omega arith) (omega arith))
-
-      pub run-ends-all : length ks ≤ b → b ≡ countBefore md (slotAt md ks a + 1) ks
-      run-ends-all le = sym (before-is (slotAt md ks a + 1) ks b within run-before (λ i x lt. absurd (omega arith)))
-
-      pub run-ends : b < length ks → (slotAt md ks b ≡ slotAt md ks a → ⊥) → b ≡ countBefore md (slotAt md ks a + 1) ks
-      run-ends lt d =
-          let up : slotAt md ks a ≤ slotAt md ks b = slots-rise md r ks h a b (omega arith) lt in
-          sym (before-is (slotAt md ks a + 1) ks b within run-before (λ i x l. omega (arith, d, slots-rise md r ks h b i x l)))
+    -- a run ends after as many keys as go to its slot and those before it
+    pub run-counted : (ks : List ℕ) → Rising ks → (a b : ℕ) → RunEnd md ks a b → b ≡ countBefore md (slotAt md ks a + 1) ks
+    run-counted ks h a b run =
+        sym
+        (before-is (slotAt md ks a + 1) ks b (run .within)
+        (λ i lt. omega (arith, run .shared (b - 1) (omega arith) (omega arith), slots-rise md r ks h i (b - 1) (omega arith) (omega arith)))
+        (λ i le lt. omega (arith, run .parts (omega arith), slots-rise md r ks h a b (omega arith) (omega arith), slots-rise md r ks h b i le lt)))
 
 -- A slot with one key, with several, and then the others.
 module _ (B : Builder) (r q : ℕ) (ps : List ℕ) (m : Mem) where

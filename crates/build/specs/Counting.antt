@@ -2,11 +2,9 @@
 -- node written into a list as far as that list goes. Definitions only.
 use mathlib.Core.List.{List}
 use mathlib.Core.Path.{_≡_}
-use Prim.Native.Nat.{ℕ, _<_, _≤_}
-use lib.ListN.{length, getD}
+use Prim.Native.Nat.{ℕ}
+use lib.ListN.{length}
 use lib.Seq.{sets}
-use Rattle.model.specs.Slots.{valueOf, slotOf}
-use Rattle.model.specs.declared.Model.{Model}
 use Rattle.build.specs.Sizes.{sizesOf, depthOf, total}
 use Rattle.build.specs.declared.sizes.Needs.{Needs}
 
@@ -22,10 +20,3 @@ needsOf depth ks = record {
 pub record Counts (fuel : ℕ) (ks : List ℕ) (at : ℕ) (before after : List ℕ) (n : Needs) : Type 0 where
   pub needs : n ≡ needsOf fuel ks
   pub list : after ≡ sets before at (sizesOf fuel ks)
-
--- b is past the last key that goes to the slot of key a, in a list along which slots do not fall
-pub record RunEnd (m : Model) (ks : List ℕ) (a b : ℕ) : Type 0 where
-  pub after : a < b
-  pub within : b ≤ length ks
-  pub shared : (i : ℕ) → a ≤ i → i < b → slotOf m (valueOf (getD ks i 0)) ≡ slotOf m (valueOf (getD ks a 0))
-  pub parts : b < length ks → slotOf m (valueOf (getD ks b 0)) ≡ slotOf m (valueOf (getD ks a 0)) → ⊥

@@ -1,15 +1,16 @@
 -- The code's way of building, which proofs/Level.antt and proofs/Filter.antt join to Building's: where a node goes, with the hint
--- for the search after it, and one group of keys. Definitions only.
+-- for the search after it, where a run of keys that share a slot ends, and one group of keys. Definitions only.
 use mathlib.Core.List.{List}
 use mathlib.Core.Path.{_≡_}
-use Prim.Native.Nat.{ℕ, _+_}
+use Prim.Native.Nat.{ℕ, _+_, _<_, _≤_}
 use lib.Dec.{ltb}
-use lib.ListN.{length}
+use lib.ListN.{length, getD}
 use Rattle.laws.specs.Pick.{pick}
 use Rattle.marks.specs.Used.{firstUnused}
 use Rattle.marks.specs.declared.Run.the-variants.{At as RunAt, Nowhere}
 use Rattle.marks.specs.declared.Run.{Run}
 use Rattle.model.specs.Choice.{modelOf}
+use Rattle.model.specs.Slots.{valueOf, slotOf}
 use Rattle.model.specs.declared.Model.{Model}
 use Rattle.pool.specs.Memory.{Mem, recordsIn, slotsIn}
 use Rattle.pool.specs.Writing.{putChild}
@@ -46,6 +47,13 @@ placedIn m (Here p) count = placeNode m (p .record) (p .node) count
 pub record Begins (ks : List ℕ) (before after : Mem) (p : Placed) : Type 0 where
   pub place : p ≡ placeFor before (modelOf ks)
   pub memory : after ≡ placedIn before p (length ks)
+
+-- b is past the last key that goes to the slot of key a, in a list along which slots do not fall
+pub record RunEnd (m : Model) (ks : List ℕ) (a b : ℕ) : Type 0 where
+  pub after : a < b
+  pub within : b ≤ length ks
+  pub shared : (i : ℕ) → a ≤ i → i < b → slotOf m (valueOf (getD ks i 0)) ≡ slotOf m (valueOf (getD ks a 0))
+  pub parts : b < length ks → slotOf m (valueOf (getD ks b 0)) ≡ slotOf m (valueOf (getD ks a 0)) → ⊥
 
 -- one group of keys: the child, and slot q that leads to it
 unfoldable pub groupAt : Builder → ℕ → Builder

@@ -8,15 +8,14 @@ use model::Model;
 use pool::Node;
 ghost use mathlib.Core.Path.{_≡_};
 ghost use Prim.Native.Nat.{_+_, _<_, _≤_};
-ghost use lib.ListN.{length, getD};
+ghost use lib.ListN.{length};
 ghost use Rattle.laws.specs.Keys.{Rising};
 ghost use Rattle.model.specs.Choice.{mostKeys};
-ghost use Rattle.model.specs.Groups.{countBefore};
-ghost use Rattle.model.specs.Slots.{InRange, valueOf, slotOf};
+ghost use Rattle.model.specs.Slots.{InRange};
 ghost use Rattle.pool.specs.Memory.{mem, recordsIn, slotsIn};
 ghost use Rattle.build.specs.Building.{build, placeNode};
 ghost use Rattle.build.specs.Hints.{Sized, Hinted, Builds};
-ghost use Rattle.build.specs.Runs.{placeFor, Begins, Groups};
+ghost use Rattle.build.specs.Runs.{placeFor, Begins, RunEnd, Groups};
 
 // What a build gives: its top node's record, or that there was no room.
 pub enum Built {
@@ -128,7 +127,7 @@ fn run_end(keys: &[u64], a: usize, m: Model) -> usize
     requires { ⌜ Rising (now keys) ⌝ }
     requires { ⌜ InRange m ⌝ }
     requires { ⌜ a < length (now keys) ⌝ }
-    ensures { λ r. ⌜ (r ≡ countBefore m (slotOf m (valueOf (getD (now (keys .entry)) a 0)) + 1) (now (keys .entry))) × (a < r) × (r ≤ length (now (keys .entry))) ⌝ }
+    ensures { λ r. ⌜ RunEnd m (now (keys .entry)) a r ⌝ }
 {
     let s = model::slot_of(m, keys[a]);
     let mut b = a + 1;

@@ -84,7 +84,7 @@ fn undo(used: &mut [u64], records: usize, list: &[u64], n: usize)
 }
 
 // The first n places of the list zero.
-fn wipe(list: &mut [u64], n: usize)
+pub fn wipe(list: &mut [u64], n: usize)
     requires { ⌜ n ≤ length (now list) ⌝ }
     ensures { λ _. ⌜ now (list .exit) ≡ sets (now (list .entry)) 0 (replicate n 0) ⌝ }
 {

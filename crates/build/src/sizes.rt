@@ -1,15 +1,13 @@
 // What a build over rising keys needs, found without storing anything in the pools: how many nodes and slots, how deep, and the
 // L of each node in the order in which the nodes take their places.
 ghost use mathlib.Core.Path.{_≡_};
-ghost use Prim.Native.Nat.{_+_, _^_, _<_, _≤_, max};
+ghost use Prim.Native.Nat.{_+_, _^_, _≤_, max};
 ghost use lib.ListN.{length, set};
 ghost use Rattle.laws.specs.Keys.{Rising};
 ghost use Rattle.model.specs.Choice.{mostKeys};
-ghost use Rattle.model.specs.Slots.{InRange};
-ghost use Rattle.build.specs.Counting.{Counts, RunEnd};
-use model::Model;
+ghost use Rattle.build.specs.Counting.{Counts};
+use crate::run_end;
 use model::model_of;
-use model::slot_of;
 
 // What a build takes: nodes, slots, and nodes on its longest path.
 pub struct Needs {
@@ -32,25 +30,6 @@ fn larger(a: usize, b: usize) -> usize
     ensures { λ r. ⌜ r ≡ max a b ⌝ }
 {
     if a < b { b } else { a }
-}
-
-// Past the last key that goes to the slot of key a.
-fn run_end(keys: &[u64], a: usize, m: Model) -> usize
-    requires { ⌜ InRange m ⌝ }
-    requires { ⌜ Rising (now keys) ⌝ }
-    requires { ⌜ a < length (now keys) ⌝ }
-    ensures { λ r. ⌜ RunEnd m (now (keys .entry)) a r ⌝ }
-{
-    let s = slot_of(m, keys[a]);
-    let mut b = a + 1;
-    while b < keys.len() {
-        let t = slot_of(m, keys[b]);
-        if t != s {
-            return b;
-        }
-        b += 1;
-    }
-    b
 }
 
 // What the tree over the keys, of at most `fuel` levels, takes. Each L goes into the list from place `at` on, as far as the list

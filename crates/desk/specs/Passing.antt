@@ -10,6 +10,10 @@ use Rattle.laws.specs.Pick.{pick}
 use Rattle.pool.specs.Memory.{Mem}
 use Rattle.sounding.specs.declared.Sounding.{Sounding}
 use Rattle.store.specs.Bands.{Band}
+use Rattle.desk.specs.declared.InsertedAnswer.{InsertedAnswer}
+use Rattle.insert.specs.Inserting.{Insert, inserted}
+use Rattle.insert.specs.declared.Inserting.{Inserting}
+use Rattle.rebuild.specs.Rebuilding.{Scratch}
 use Rattle.store.specs.Calls.{Call, changed}
 use Rattle.store.specs.declared.Changing.{Changing}
 use Rattle.desk.specs.declared.ChangedAnswer.{ChangedAnswer}
@@ -74,3 +78,21 @@ listing a ks ps = record { answer = a; keys = ks; payloads = ps }
 unfoldable pub passBand : Band → Listing
 passBand b =
     listing (record { number = b .answer .number; count = getD (b .answer .values) 0 0; more = getD (b .answer .values) 1 0 }) (b .keys) (b .payloads)
+
+-- what an insert leaves: answer, memory and scratch
+pub record Insertion : Type 0 where
+  pub answer : InsertedAnswer
+  pub memory : Mem
+  pub scratch : Scratch
+
+abbrev pub insertion : InsertedAnswer → Mem → Scratch → Insertion
+insertion a m s = record { answer = a; memory = m; scratch = s }
+
+-- 0 returns conflict and tidying; the handle is the next one
+unfoldable pub passInsert : Insert → Insertion
+passInsert i =
+    insertion (record { number = i .answer .number; conflict = getD (i .answer .values) 0 0; tidying = getD (i .answer .values) 1 0; handle = i .handle }) (i .memory) (i .scratch)
+
+-- the same of the code's answer
+unfoldable pub passInserting : Inserting → InsertedAnswer
+passInserting i = record { number = inserted (i .answer) .number; conflict = getD (inserted (i .answer) .values) 0 0; tidying = getD (inserted (i .answer) .values) 1 0; handle = i .handle }

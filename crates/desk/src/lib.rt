@@ -1,13 +1,17 @@
 // The desk library: every public call for a C or Rust host. Thin functions over the proved calls; include/soorqabiye_desk.h is
 // their C side.
 ghost use mathlib.Core.Path.{_≡_};
+ghost use Rattle.insert.specs.Inserting.{insertOf};
 ghost use Rattle.pool.specs.Memory.{mem};
+ghost use Rattle.rebuild.specs.Rebuilding.{scratch};
 ghost use Rattle.sounding.specs.Studio.{unpackOf};
 ghost use Rattle.store.specs.Bands.{bandOf};
 ghost use Rattle.store.specs.Calls.{lookupOf, replaceOf, deleteOf};
 ghost use Rattle.store.specs.Handles.{noHandle};
 ghost use Rattle.store.specs.Loading.{loadOf};
-ghost use Rattle.desk.specs.Passing.{passSounding, passLoad, load, passLooked, passChange, passChanging, change, passBand, listing};
+ghost use Rattle.desk.specs.Passing.{passSounding, passLoad, load, passLooked, passChange, passChanging, change, passBand, listing, passInsert, passInserting, insertion};
+use insert::Inserted;
+use insert::Inserting;
 use sounding::Unpacked;
 use store::Changed;
 use store::Changing;
@@ -48,6 +52,14 @@ pub struct ListedAnswer {
 pub struct ChangedAnswer {
     pub number: u64,
     pub visits: usize,
+    pub handle: Handle,
+}
+
+#[repr(C)]
+pub struct InsertedAnswer {
+    pub number: u64,
+    pub conflict: usize,
+    pub tidying: usize,
     pub handle: Handle,
 }
 
@@ -242,4 +254,57 @@ pub extern "C" fn soorqabiye_band(
         Listed::Reversed => refused_list(3),
         Listed::Damage => refused_list(9),
     }
+}
+
+fn refused_insert(h: Handle, number: u64) -> InsertedAnswer
+    ensures { λ r. ⌜ r ≡ record { number = number; conflict = 0; tidying = 0; handle = h } ⌝ }
+{
+    InsertedAnswer {
+        number,
+        conflict: 0,
+        tidying: 0,
+        handle: h,
+    }
+}
+
+// An insert's answer in fields.
+fn passed_insert(i: Inserting) -> InsertedAnswer
+    ensures { λ r. ⌜ r ≡ passInserting i ⌝ }
+{
+    let h = i.handle;
+    let a = i.answer;
+    match a {
+        Inserted::Done(conflict, tidying) => InsertedAnswer {
+            number: 0,
+            conflict,
+            tidying,
+            handle: h,
+        },
+        Inserted::WrongSizes => refused_insert(h, 1),
+        Inserted::OutOfRange => refused_insert(h, 2),
+        Inserted::Held => refused_insert(h, 5),
+        Inserted::Full => refused_insert(h, 7),
+        Inserted::NoRoom => refused_insert(h, 8),
+        Inserted::Damage => refused_insert(h, 9),
+    }
+}
+
+#[no_mangle]
+pub extern "C" fn soorqabiye_insert(
+    h: Handle,
+    key: u64,
+    payload: u64,
+    nodes: &mut [u64],
+    slots: &mut [u64],
+    used: &mut [u64],
+    keys: &mut [u64],
+    payloads: &mut [u64],
+    places: &mut [u64],
+) -> InsertedAnswer
+    ensures { λ r. ⌜ insertion r (mem (now (nodes .exit)) (now (slots .exit)) (now (used .exit))) (scratch (now (keys .exit)) (now (payloads .exit)) (now (places .exit)))
+        ≡ passInsert (insertOf h key payload (mem (now (nodes .entry)) (now (slots .entry)) (now (used .entry)))
+        (scratch (now (keys .entry)) (now (payloads .entry)) (now (places .entry)))) ⌝ }
+{
+    let i = insert::insert(h, key, payload, nodes, slots, used, keys, payloads, places);
+    passed_insert(i)
 }

@@ -1,10 +1,10 @@
--- One turn of each loop: what is left to do from the next place, or from 64 places on, is what was left to do before. k places
--- are passed at once, of which k = 1 and k = 64 occur. Assumes nothing.
+-- One turn of each loop: what is left to do from the next place, or from the next word on, is what was left to do before. k
+-- places are passed at once: one, or those of one word or of several. Assumes nothing.
 use mathlib.Core.Bool.{Bool, true, false}
 use mathlib.Core.List.{List}
 use mathlib.Core.Logic.{⊎-elim}
 use mathlib.Core.Path.{_≡_, refl, sym}
-use Prim.Native.Nat.{ℕ, _+_, _-_, _<_, _≤_, _/_, _%_, _^_}
+use Prim.Native.Nat.{ℕ, _+_, _*_, _-_, _<_, _≤_, _/_, _%_, _^_}
 use native.Mathlib.Omega.{arith}
 use lib.ListN.{length, getD, set}
 use Rattle.laws.proofs.Tests.{both, le-or-lt}
@@ -38,6 +38,19 @@ full-word-each u p z e q a l = let d : q / 64 ≡ p / 64 = omega arith in full-w
 
 pub zero-word-each : (u : List ℕ) (p : ℕ) → p % 64 ≡ 0 → getD u (p / 64) 0 ≡ 0 → Each u p 64 false
 zero-word-each u p z e q a l = let d : q / 64 ≡ p / 64 = omega arith in zero-word-unused u q (rw d e)
+
+-- each place of the words from k up to r is used
+abbrev pub UsedWords : List ℕ → ℕ → ℕ → Type 0
+UsedWords u k r = (q : ℕ) → k * 64 ≤ q → q < r * 64 → usedAt u q ≡ true
+
+pub used-words-next : (u : List ℕ) (k r : ℕ) → UsedWords u k r → getD u r 0 ≡ 2 ^ 64 - 1 → UsedWords u k (r + 1)
+used-words-next u k r f e q a l =
+    ⊎-elim (λ m. let d : q / 64 ≡ r = omega arith in full-word-used u q (rw d e)) (λ m. f q a m) (le-or-lt (r * 64) q)
+
+pub full-words-each : (u : List ℕ) (p r : ℕ) → p % 64 ≡ 0 → getD u (p / 64) 0 ≡ 2 ^ 64 - 1 → UsedWords u (p / 64 + 1) r
+    → Each u p (r * 64 - p) true
+full-words-each u p r z e f q a l =
+    ⊎-elim (λ m. f q (omega arith) (omega arith)) (λ m. full-word-each u p z e q a m) (le-or-lt (p + 64) q)
 
 -- marking and clearing the places from q up to e
 pub mark-start : (u : List ℕ) (p n : ℕ) → markRun u p (p + n - p) ≡ markRun u p n

@@ -103,6 +103,21 @@ pub fn is_full_run(used: &[u64], p: usize, n: usize) -> bool
     true
 }
 
+// the first word from k on, below end, that is not full; end if there is none
+fn skip_full(used: &[u64], k: usize, end: usize) -> usize
+    requires { ⌜ (k ≤ end) × (end ≤ length (now used)) ⌝ }
+    ensures { λ r. ⌜ (k ≤ r) × (r ≤ end) × ((q : ℕ) → k * 64 ≤ q → q < r * 64 → usedAt (now (used .entry)) q ≡ true) ⌝ }
+{
+    let mut w = k;
+    while w < end {
+        if used[w] != FULL {
+            return w;
+        }
+        w += 1;
+    }
+    end
+}
+
 // the first unused place; those before s are known to be used
 pub fn first_unused(used: &[u64], from: usize, n: usize, s: usize) -> usize
     requires { ⌜ (from + n ≤ length (now used) * 64) × (from + n < 2 ^ 63) × (s ≤ n) × ((j : ℕ) → j < s → usedAt (now used) (from + j) ≡ true) ⌝ }
@@ -112,7 +127,7 @@ pub fn first_unused(used: &[u64], from: usize, n: usize, s: usize) -> usize
     while i < n {
         let p = from + i;
         if p % 64 == 0 && 64 <= n - i && used[p / 64] == FULL {
-            i += 64;
+            i = skip_full(used, p / 64 + 1, (from + n) / 64) * 64 - from;
         } else {
             if !is_used(used, p) {
                 return i;
@@ -124,7 +139,7 @@ pub fn first_unused(used: &[u64], from: usize, n: usize, s: usize) -> usize
 }
 
 // the lowest start of l unused places; those before s are known to be used. From the start tried, got places are known to be
-// unused; a used place rules out every start up to it, a full word every start in it.
+// unused; a used place rules out every start up to it, full words every start in them.
 pub fn lowest_run(used: &[u64], from: usize, n: usize, l: usize, s: usize) -> Run
     requires { ⌜ (from + n ≤ length (now used) * 64) × (from + n < 2 ^ 63) × (1 ≤ l) × (s ≤ n) × ((j : ℕ) → j < s → usedAt (now used) (from + j) ≡ true) ⌝ }
     ensures { λ r. ⌜ r ≡ lowestRun (now (used .entry)) from n l ⌝ }
@@ -140,7 +155,7 @@ pub fn lowest_run(used: &[u64], from: usize, n: usize, l: usize, s: usize) -> Ru
         if p % 64 == 0 {
             let w = used[p / 64];
             if w == FULL {
-                start = start + got + 64;
+                start = skip_full(used, p / 64 + 1, (from + n + 63) / 64) * 64 - from;
                 got = 0;
                 continue;
             }

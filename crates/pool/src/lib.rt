@@ -165,14 +165,14 @@ pub fn put_child(slots: &mut [u64], q: usize, child: usize)
     slots[at + 1] = 0;
 }
 
-// Slot q holds nothing.
+// Slot q holds nothing: both its words are 0.
 pub fn put_null(slots: &mut [u64], q: usize)
     requires { ⌜ q * 2 + 1 < length (now slots) ⌝ }
     ensures { λ a. ⌜ now (slots .exit) ≡ putNull (now (slots .entry)) q ⌝ }
 {
     let at = q * Node::SLOT_WORDS;
-    slots[at] = 0;
-    slots[at + 1] = 0;
+    slots[at] = Slot::NULL;
+    slots[at + 1] = Slot::NULL;
 }
 
 // An unused record is all zeros.

@@ -5,12 +5,13 @@ use mathlib.Core.Path.{_≡_, refl}
 use Prim.Native.Nat.{ℕ, _+_, _*_, _^_}
 use lib.ListN.{replicate, set}
 use Rattle.laws.specs.Answers.{done, refused, reversed, outOfRange, wrongSizes, damage}
+use Rattle.listing.specs.Listing.{listing}
 use Rattle.marks.specs.Used.{usedAt}
 use Rattle.model.specs.Slots.{slotOf, inRange}
 use Rattle.pool.specs.Memory.{Mem, mem, kindWord}
 use Rattle.pool.specs.Reading.{nodeIn, nodeFits, nodeAt, slotSays, slotAt}
 use Rattle.pool.specs.declared.Node.{Node}
-use Rattle.store.specs.Bands.{bandItems, listing, band, bandOut, bandOf}
+use Rattle.store.specs.Bands.{bandItems, band, bandOut, bandOf}
 use Rattle.store.specs.Calls.{searchEnd, searchOf, lookupOf}
 use Rattle.store.specs.Handles.{poolsAre, limitsHold, handleFits}
 use Rattle.store.specs.declared.Handle.{Handle}

@@ -3,20 +3,20 @@ use mathlib.Core.Bool.{true, false}
 use mathlib.Core.List.{List}
 use mathlib.Core.Path.{_≡_}
 use Prim.Native.Nat.{ℕ, _<_, _≤_}
-use native.Mathlib.Omega.{arith}
 use borrow.Author.Tests.{eq-eqb, ne-eqb, lt-ltb, le-ltb, le-leb, lt-leb}
 use lib.ListN.{length}
 use lib.Seq.{sets}
 use Rattle.laws.specs.Keys.{keyBound}
+use Rattle.listing.proofs.Counts.{counted-done, counted-damage}
+use Rattle.listing.proofs.Listings.{relisted}
+use Rattle.listing.proofs.Writes.{payloadsAt}
+use Rattle.listing.specs.Listing.{listing, countFrom}
+use Rattle.listing.specs.declared.Counted.the-variants.{Done as Counts, Damage as Spoilt}
 use Rattle.pool.specs.Memory.{Mem}
-use Rattle.store.specs.Bands.{listing, band, bandItems, bandOut, bandOf, listed}
+use Rattle.store.specs.Bands.{band, bandItems, bandOut, bandOf, listed}
 use Rattle.store.specs.Handles.{handleFits}
-use Rattle.store.specs.Listings.{countFrom}
 use Rattle.store.specs.declared.Handle.{Handle}
 use Rattle.store.specs.declared.Listed.the-variants.{Done, WrongSizes, OutOfRange, Reversed, Damage}
-use Rattle.store.specs.declared.bands.Counted.the-variants.{Done as Counts, Damage as Spoilt}
-use Rattle.store.proofs.BandCounts.{counted-done, counted-damage}
-use Rattle.store.proofs.BandWrites.{payloadsAt, relisted, listing-fits}
 
 module _ (h : Handle) (u v : ℕ) (m : Mem) (ks ps : List ℕ) where
   pub band-sizes : handleFits h m ≡ false → band (listed WrongSizes) ks ps ≡ bandOf h u v m ks ps
@@ -52,18 +52,12 @@ module _ (h : Handle) (u v : ℕ) (m : Mem) (ks ps : List ℕ) where
             unfolding bandOut listed
             band-damage e = rw (counted-damage (listing u v (length ks) (bandItems h u v m)) e) at at-listing
 
-            module _ (n more : ℕ) (e : Counts n more ≡ countFrom 0 (listing u v (length ks) (bandItems h u v m))) where
-              pub band-fits : (n ≤ length ks) × (n ≤ length ps)
-              band-fits =
-                  let c : n ≡ length (listing u v (length ks) (bandItems h u v m) .keys) = counted-done (listing u v (length ks) (bandItems h u v m)) n more e .1 in
-                  let f = listing-fits u v (bandItems h u v m) (length ks) in
-                  (omega (arith, c, f), omega (arith, c, f, same))
-
-              pub band-done : (ks′ ps′ : List ℕ) → ks′ ≡ sets ks 0 (listing u v n (bandItems h u v m) .keys)
-                  → ps′ ≡ sets ps 0 (payloadsAt (m .slots) (listing u v n (bandItems h u v m) .places))
-                  → band (listed (Done n more)) ks′ ps′ ≡ bandOf h u v m ks ps
-              unfolding bandOut listed
-              band-done ks′ ps′ p q =
-                  let c = counted-done (listing u v (length ks) (bandItems h u v m)) n more e in
-                  let r = relisted u v (bandItems h u v m) (length ks) in
-                  rw (p, q, c .2, c .1, r .0, r .1) (rw (c .0) at at-listing)
+            pub band-done : (n more : ℕ) → Counts n more ≡ countFrom 0 (listing u v (length ks) (bandItems h u v m))
+                → (ks′ ps′ : List ℕ) → ks′ ≡ sets ks 0 (listing u v n (bandItems h u v m) .keys)
+                → ps′ ≡ sets ps 0 (payloadsAt (m .slots) (listing u v n (bandItems h u v m) .places))
+                → band (listed (Done n more)) ks′ ps′ ≡ bandOf h u v m ks ps
+            unfolding bandOut listed
+            band-done n more e ks′ ps′ p q =
+                let c = counted-done (listing u v (length ks) (bandItems h u v m)) n more e in
+                let r = relisted u v (bandItems h u v m) (length ks) in
+                rw (p, q, c .2, c .1, r .0, r .1) (rw (c .0) at at-listing)

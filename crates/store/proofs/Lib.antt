@@ -1,8 +1,5 @@
-pub mod BandCounts
-pub mod BandItems
 pub mod BandSamples
 pub mod BandWays
-pub mod BandWrites
 pub mod Faults
 pub mod Fitting
 pub mod Loads

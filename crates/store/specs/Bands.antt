@@ -1,15 +1,16 @@
 -- Band (document 01, "The calls"): "lists elements with u <= key <= v in key order into the lent output, as many as fit, and says how
 -- many and whether more remain. Output past that number is untouched. Its walk takes, in each node, the slots from that of u to that
 -- of v, and stops at the first element beyond the output's room." Refusals: 1, 2, 3, 9. Definitions only.
-use mathlib.Core.Bool.{Bool, true, false, _&&_}
+use mathlib.Core.Bool.{false, _&&_}
 use mathlib.Core.List.{List, [], _∷_, map}
-use Prim.Native.Nat.{ℕ, zero, suc}
+use Prim.Native.Nat.{ℕ}
 use lib.Dec.{ltb, leb, eqb}
 use lib.ListN.{length, getD}
 use lib.Seq.{sets}
 use Rattle.laws.specs.Answers.{Answer, done, refused, wrongSizes, outOfRange, reversed, damage}
 use Rattle.laws.specs.Keys.{keyBound}
 use Rattle.laws.specs.Pick.{pick}
+use Rattle.listing.specs.Listing.{Listing, listing}
 use Rattle.pool.specs.Memory.{Mem, recordsIn, payloadWord}
 use Rattle.store.specs.Handles.{handleFits}
 use Rattle.store.specs.declared.Handle.{Handle}
@@ -18,7 +19,6 @@ use Rattle.store.specs.declared.Listed.the-variants.{Done, WrongSizes, O
 use Rattle.walk.specs.Events.{eventsOf}
 use Rattle.walk.specs.Items.{items}
 use Rattle.walk.specs.declared.Item.{Item}
-use Rattle.walk.specs.declared.Item.the-variants.{Held, Broken, End}
 use Rattle.walk.specs.declared.Rules.{Rules}
 use Rattle.walk.specs.declared.Span.the-variants.{Between}
 
@@ -29,30 +29,6 @@ bandRules records = record { nodes = records; keys = 0; least = 0; rebuild = fal
 -- the elements in key order that a band meets, or damage
 unfoldable pub bandItems : Handle → ℕ → ℕ → Mem → List Item
 bandItems h u v m = items m (bandRules (recordsIn (m .nodes))) (eventsOf (Between u v) m 0 (h .root))
-
--- what is listed: keys and their slots, whether more remain; or damage was met
-pub record Listing : Type 0 where
-  pub sound : Bool
-  pub keys : List ℕ
-  pub places : List ℕ
-  pub more : ℕ
-
-abbrev pub none : ℕ → Listing
-none more = record { sound = true; keys = []; places = []; more = more }
-
-abbrev pub spoilt : Listing
-spoilt = record { sound = false; keys = []; places = []; more = 0 }
-
-abbrev pub first : ℕ → ℕ → Listing → Listing
-first q k l = record { sound = l .sound; keys = k ∷ l .keys; places = q ∷ l .places; more = l .more }
-
--- with so much room left
-unfoldable pub listing : ℕ → ℕ → ℕ → List Item → Listing
-listing u v room [] = none 0
-listing u v room (End ∷ is) = none 0
-listing u v room (Broken ∷ is) = spoilt
-listing u v zero (Held q k ∷ is) = pick (leb u k && leb k v) (none 1) (listing u v zero is)
-listing u v (suc room) (Held q k ∷ is) = pick (leb u k && leb k v) (first q k (listing u v room is)) (listing u v (suc room) is)
 
 -- what a band leaves: its answer and the two output lists
 pub record Band : Type 0 where

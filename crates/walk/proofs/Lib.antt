@@ -1,3 +1,4 @@
+pub mod Paths
 pub mod Readings
 pub mod Siftings
 pub mod Walks

@@ -7,7 +7,7 @@ use native.Mathlib.Nat.{add-zero}
 use native.Mathlib.Omega.{arith}
 use lib.ListN.{length, getD, set, replicate, length-append}
 use lib.Seq.{sets}
-use Rattle.model.specs.Slots.{valueOf, slotOf}
+use Rattle.model.specs.Slots.{slotOf}
 use Rattle.model.proofs.Slots.{slot-under}
 use Rattle.pool.proofs.Nodes.{good-node}
 use Rattle.pool.proofs.Slots.{DataSlot, data-reads}

@@ -170,7 +170,8 @@ pub fn follow(nodes: &[u64], slots: &[u64], used: &[u64], root: usize, key: u64)
     }
 }
 
-// The same with the nodes on the way, for the call that raises their counters.
+// The same with the nodes on the way, for the call that raises their counters. It does not call step_at: a function with one caller is
+// put in its place, and a lookup is the shorter for it.
 pub fn trace(nodes: &[u64], slots: &[u64], used: &[u64], root: usize, key: u64) -> Traced
     requires { ⌜ key < keyBound ⌝ }
     ensures { λ a. ⌜ a ≡ traceOf (mem (now (nodes .entry)) (now (slots .entry)) (now (used .entry))) root key ⌝ }
@@ -181,12 +182,22 @@ pub fn trace(nodes: &[u64], slots: &[u64], used: &[u64], root: usize, key: u64) 
         let at = path.len;
         path.nodes[at] = r;
         path.len = at + 1;
-        match step_at(nodes, slots, used, r, key) {
-            Step::Down(c) => {
-                r = c;
+        match pool::node_at(nodes, slots, used, r) {
+            Record::Broken(b) => {
+                return Traced {
+                    end: End::Damage(b),
+                    path,
+                };
             }
-            Step::Stop(end) => {
-                return Traced { end, path };
+            Record::Good(n) => {
+                match step_in(slots, n, key) {
+                    Step::Down(c) => {
+                        r = c;
+                    }
+                    Step::Stop(end) => {
+                        return Traced { end, path };
+                    }
+                }
             }
         }
     }

@@ -7,6 +7,7 @@ use borrow.Author.Needs.{needs}
 use lib.ListN.{length}
 use Rattle.pool.specs.Memory.{Mem, mem}
 use Rattle.build.specs.Building.{fillSlots, build}
+use Rattle.build.proofs.Filter.{run-counted}
 use Rattle.build.proofs.Turns.{Filling, filling-start, Turn, data-requires, turn-data, group-requires, turn-group, ends-full, ends-filled, ends-no-fuel, ends-nowhere, begun-fills, child-small, group-child, group-full}
 use borrow.Fn.Kinds.{In}
 use borrow.Fn.PlainCycle.{Measures, is, falls, and}
@@ -157,9 +158,9 @@ turn t c =
       here = c .before .before .before .before .loop-test .taken;
       slot = q .0;
       under = q .1;
-      end = e .0;
-      more = e .1;
-      within = e .2;
+      end = run-counted _ (loop t c .loop .inv .range) _ (p .0) _ _ e;
+      more = e .after;
+      within = e .within;
     }
 
 build-node-returns : (t : ℕ) → build-node-lts.Need-returns (build-node-calls t) (build-node-at t) build-node.Post build-node-Inv-loop build-node-μ-loop

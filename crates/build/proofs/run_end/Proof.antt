@@ -1,16 +1,16 @@
--- `build::run_end` meets its contract. The loop's invariant: the keys from a up to b go to the slot of the key at a; since slots
--- do not fall along the keys, the first key of another slot ends the run. Assumes nothing.
-use mathlib.Core.Path.{_≡_, sym, _∙_}
-use Prim.Native.Nat.{_+_, _-_, _<_, _≤_}
-use native.Mathlib.Omega.{arith}
+-- `build::run_end` meets its contract. The loop's invariant: every key from a up to b goes to the slot of key a. The measure
+-- is what is left of the keys. Assumes nothing.
+use mathlib.Core.Path.{sym, _∙_}
+use Prim.Native.Nat.{_-_, _<_, _≤_}
 use borrow.Author.Needs.{needs}
 use lib.ListN.{length}
-use Rattle.build.proofs.Filter.{slotAt, run-ends, run-ends-all}
+use Rattle.build.proofs.Counting.{Shared, shared-first, shared-more}
 use Rattle.build.proofs.run_end.Statement.{statement}
 use Rattle.build.proofs.run_end.Tie as tie
 
 abbrev Inv-loop : tie.InvT-loop
-Inv-loop keys a m s b₀ b = (a < b) × (b ≤ length keys) × (slotAt m keys (b - 1) ≡ slotAt m keys a)
+Inv-loop keys a m s b₀ b =
+    (a < b) × (b ≤ length keys) × Shared m keys a b
 
 abbrev μ-loop : tie.MeasureT-loop
 μ-loop keys a m s b₀ b = length keys - b
@@ -31,9 +31,8 @@ add-b c = search needs
 
 loop-holds : tie.Need-loop-holds Inv-loop μ-loop
 loop-holds c =
-    let s = c .before .before .before in
-    let e : s .args .a + 1 - 1 ≡ s .args .a = omega arith in
-    (omega arith, omega (arith, s .pre .1 .1), rw e)
+    let x = c .before .before .before .args in
+    (search needs, search needs, shared-first (x .m) (x .keys .now) (x .a))
 
 mul-slot-of-2 : tie.Need-mul-slot-of-2 Inv-loop μ-loop
 mul-slot-of-2 c = search needs
@@ -44,18 +43,10 @@ shared-slice-read-slot-of-2 c = search needs
 slot-of-requires-2 : tie.Need-slot-of-requires-2 Inv-loop μ-loop
 slot-of-requires-2 c κs =
     let s = c .before .before .before .before .before .before in
-    (s .pre .1 .0, s .pre .0 .below (c .before .before .loop .b) (c .before .loop-test .taken))
+    (s .pre .1 .0, s .pre .0 .below (c .before .before .loop .b) (search needs))
 
 returns : tie.Need-returns Inv-loop μ-loop
-returns c =
-    let h = c .before .before .before .before in
-    let s = h .before .before .before .before in
-    let i = h .loop .inv in (
-      run-ends (s .args .m) (s .pre .1 .0) (s .args .keys .now) (s .pre .0) (s .args .a) (h .loop .b) (i .0) (i .1) (i .2) (c .before .before .before .loop-test .taken)
-          (λ q. c .if1 .taken (c .before .slot-of2 .ensures .0 ∙ q ∙ sym (h .before .slot-of .ensures .0))),
-      i .0,
-      i .1,
-    )
+returns c = search needs
 
 add-b-2 : tie.Need-add-b-2 Inv-loop μ-loop
 add-b-2 c = search needs
@@ -66,21 +57,20 @@ loop-less c = search needs
 loop-again : tie.Need-loop-again Inv-loop μ-loop
 loop-again c =
     let h = c .before .before .before .before in
-    let e : h .loop .b + 1 - 1 ≡ h .loop .b = omega arith in (
-      omega arith,
-      omega arith,
-      rw e (sym (c .before .slot-of2 .ensures .0) ∙ c .if1 .left ∙ h .before .slot-of .ensures .0),
+    let x = h .before .before .before .before .args in (
+      search needs,
+      search needs,
+      shared-more
+          (x .m)
+          (x .keys .now)
+          (x .a)
+          (h .loop .b)
+          (h .loop .inv .2)
+          (sym (c .before .slot-of2 .ensures .0) ∙ c .if1 .left ∙ h .before .slot-of .ensures .0),
     )
 
 returns-2 : tie.Need-returns-2 Inv-loop μ-loop
-returns-2 c =
-    let h = c .before in
-    let s = h .before .before .before .before in
-    let i = h .loop .inv in (
-      run-ends-all (s .args .m) (s .pre .1 .0) (s .args .keys .now) (s .pre .0) (s .args .a) (h .loop .b) (i .0) (i .1) (i .2) (c .loop-test .left),
-      i .0,
-      i .1,
-    )
+returns-2 c = search needs
 
 pub run-end-spec : {M : Type 1} → statement M
 run-end-spec =

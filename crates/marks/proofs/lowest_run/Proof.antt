@@ -8,7 +8,7 @@ use borrow.Author.Needs.{needs}
 use borrow.Author.Tests.{ltb-true}
 use Rattle.marks.specs.Used.{freeRun}
 use Rattle.marks.proofs.Lowest.{lowest-run-here, lowest-run-nowhere}
-use Rattle.marks.proofs.Turns.{each-one, full-word-each, zero-word-each, free-next, starts-used, starts-next}
+use Rattle.marks.proofs.Turns.{each-one, full-words-each, zero-word-each, free-next, starts-used, starts-next}
 use Rattle.marks.proofs.lowest_run.Statement.{statement}
 use Rattle.marks.proofs.lowest_run.Tie as tie
 
@@ -45,11 +45,23 @@ mul-w c = search needs
 shared-slice-read-w : tie.Need-shared-slice-read-w Inv-loop μ-loop
 shared-slice-read-w c = search needs
 
-add-start : tie.Need-add-start Inv-loop μ-loop
-add-start c = search needs
+add-skip-full : tie.Need-add-skip-full Inv-loop μ-loop
+add-skip-full c = search needs
 
-add-start-2 : tie.Need-add-start-2 Inv-loop μ-loop
-add-start-2 c = search needs
+add-skip-full-2 : tie.Need-add-skip-full-2 Inv-loop μ-loop
+add-skip-full-2 c = search needs
+
+add-skip-full-3 : tie.Need-add-skip-full-3 Inv-loop μ-loop
+add-skip-full-3 c = search needs
+
+skip-full-requires : tie.Need-skip-full-requires Inv-loop μ-loop
+skip-full-requires c κs = (omega arith, omega arith)
+
+mul-start : tie.Need-mul-start Inv-loop μ-loop
+mul-start c = search needs
+
+sub-start : tie.Need-sub-start Inv-loop μ-loop
+sub-start c = search needs
 
 loop-less : tie.Need-loop-less Inv-loop μ-loop
 loop-less c = search needs
@@ -57,8 +69,9 @@ loop-less c = search needs
 loop-again : tie.Need-loop-again Inv-loop μ-loop
 unfolding freeRun
 loop-again c =
-    let l = c .before .before .before .before .loop .inv in
-    (omega arith, omega arith, omega arith, omega arith, refl, starts-next _ _ _ _ _ 64 (l .3) (omega arith) (l .5) (full-word-each _ _ (c .before .before .if2 .taken) (c .if3 .taken)))
+    let l = c .before .before .before .before .before .loop .inv in
+    let w = full-words-each _ _ _ (c .before .before .before .if2 .taken) (c .before .if3 .taken) (c .skip-full .ensures .2) in
+    (omega arith, omega arith, omega arith, omega arith, refl, (λ j h. starts-next _ _ _ _ _ _ (l .3) (omega arith) (l .5) w j (omega arith)))
 
 sub-if5 : tie.Need-sub-if5 Inv-loop μ-loop
 sub-if5 c = search needs
@@ -77,11 +90,11 @@ loop-again-2 c =
 is-used-requires : tie.Need-is-used-requires Inv-loop μ-loop
 is-used-requires c κs = search needs
 
-add-start-3 : tie.Need-add-start-3 Inv-loop μ-loop
-add-start-3 c = search needs
+add-start : tie.Need-add-start Inv-loop μ-loop
+add-start c = search needs
 
-add-start-4 : tie.Need-add-start-4 Inv-loop μ-loop
-add-start-4 c = search needs
+add-start-2 : tie.Need-add-start-2 Inv-loop μ-loop
+add-start-2 c = search needs
 
 loop-less-3 : tie.Need-loop-less-3 Inv-loop μ-loop
 loop-less-3 c = search needs
@@ -123,8 +136,12 @@ lowest-run-spec =
     add-p-2
     mul-w
     shared-slice-read-w
-    add-start
-    add-start-2
+    add-skip-full
+    add-skip-full-2
+    add-skip-full-3
+    skip-full-requires
+    mul-start
+    sub-start
     loop-less
     loop-again
     sub-if5
@@ -132,8 +149,8 @@ lowest-run-spec =
     loop-less-2
     loop-again-2
     is-used-requires
-    add-start-3
-    add-start-4
+    add-start
+    add-start-2
     loop-less-3
     loop-again-3
     add-got-2

@@ -1,5 +1,5 @@
 -- `walk::follow` meets its contract. The loop's invariant: what is left to follow from here is the whole walk. Assumes nothing.
-use mathlib.Core.Path.{_≡_, refl, sym, _∙_}
+use mathlib.Core.Path.{_≡_, sym, _∙_}
 use Prim.Native.Nat.{_-_, _≤_}
 use native.Mathlib.Omega.{arith}
 use Rattle.pool.specs.Memory.{mem}
@@ -8,9 +8,6 @@ use Rattle.walk.proofs.Walks.{followFrom, follow-start, follow-down, fo
 use borrow.Author.Needs.{needs}
 use Rattle.walk.proofs.follow.Statement.{statement}
 use Rattle.walk.proofs.follow.Tie as tie
-use Rattle.walk.proofs.follow.Reads as reads
-use Rattle.walk.proofs.follow.Lts as lts
-use Rattle.walk.proofs.step_at.Reads as step-at-reads
 
 abbrev Inv-loop : tie.InvT-loop
 Inv-loop nodes slots used root key r₀ visits₀ r visits =

@@ -1,14 +1,10 @@
 -- `walk::step_at` meets its contract. Assumes nothing.
-use mathlib.Core.Path.{_≡_, refl, sym, _∙_}
+use mathlib.Core.Path.{sym, _∙_}
 use Rattle.pool.proofs.Nodes.{good-node}
 use Rattle.walk.proofs.Walks.{step-good, step-broken}
 use borrow.Author.Needs.{needs}
 use Rattle.walk.proofs.step_at.Statement.{statement}
 use Rattle.walk.proofs.step_at.Tie as tie
-use Rattle.walk.proofs.step_at.Reads as reads
-use Rattle.walk.proofs.step_at.Lts as lts
-use Rattle.pool.proofs.node_at.Reads as node-at-reads
-use Rattle.walk.proofs.step_in.Reads as step-in-reads
 
 node-at-requires : tie.Need-node-at-requires
 node-at-requires c κs = search needs

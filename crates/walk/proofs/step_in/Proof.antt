@@ -7,10 +7,6 @@ use Rattle.walk.proofs.Walks.{step-says, step-found}
 use borrow.Author.Needs.{needs}
 use Rattle.walk.proofs.step_in.Statement.{statement}
 use Rattle.walk.proofs.step_in.Tie as tie
-use Rattle.walk.proofs.step_in.Reads as reads
-use Rattle.walk.proofs.step_in.Lts as lts
-use Rattle.model.proofs.slot_of.Reads as slot-of-reads
-use Rattle.pool.proofs.slot_at.Reads as slot-at-reads
 
 slot-of-requires : tie.Need-slot-of-requires
 slot-of-requires c κs = search needs

@@ -28,7 +28,7 @@ use Rattle.build.proofs.sizes.sizes.Kinds as sizes-kinds
 use Rattle.build.proofs.sizes.+sizes.Lts-sizes as sizes-lts
 use Rattle.build.proofs.sizes.larger.Reads as larger-reads
 use Rattle.build.proofs.sizes.put.Reads as put-reads
-use Rattle.build.proofs.sizes.run_end.Reads as run-end-reads
+use Rattle.build.proofs.run_end.Reads as run-end-reads
 use Rattle.model.proofs.model_of.Reads as model-of-reads
 use Rattle.build.proofs.sizes.+sizes.{statement}
 use Rattle.build.proofs.sizes.+sizes.Tie.{close}
@@ -70,7 +70,7 @@ sizes-loop-holds t c =
 sizes-run-end-requires : (t : ℕ) → sizes-lts.Need-run-end-requires (sizes-calls t) (sizes-at t) sizes.Post sizes-Inv-loop sizes-μ-loop
 sizes-run-end-requires t c κs =
     let s = c .before .before .before .before .before .before .before .before .before .before .before in
-    (chosen-range (s .args .keys .now) (s .pre .1 .0) (c .before .before .before .before .before .before .before .model-of .ensures), (s .pre .1 .0, c .loop-test .taken))
+    (s .pre .1 .0, (chosen-range (s .args .keys .now) (s .pre .1 .0) (c .before .before .before .before .before .before .before .model-of .ensures), c .loop-test .taken))
 
 sizes-sub-if2 : (t : ℕ) → sizes-lts.Need-sub-if2 (sizes-calls t) (sizes-at t) sizes.Post sizes-Inv-loop sizes-μ-loop
 sizes-sub-if2 t c = search needs

@@ -3,8 +3,6 @@ use mathlib.Core.Path.{refl}
 use Rattle.walk.specs.Walks.{pathOf}
 use Rattle.walk.proofs.Path.new.Statement.{statement}
 use Rattle.walk.proofs.Path.new.Tie as tie
-use Rattle.walk.proofs.Path.new.Reads as reads
-use Rattle.walk.proofs.Path.new.Lts as lts
 
 returns : tie.Need-returns
 unfolding pathOf

@@ -28,7 +28,7 @@ add-if1-2 c = search needs
 returns : tie.Need-returns
 returns c =
     let p = c .before .before .before .before .before .before .before .before .before .before .before .pre in
-    meets-deep-child _ _ _ _ _ _ (p .1 .0) (p .1 .1 .0) _ (p .1 .1 .1 .0) _ (sym (c .before .before .before .before .node-at .ensures) ∙ c .before .before .n .given .1) (c .if1 .taken)
+    meets-deep-child _ _ _ _ _ _ (p .1 .0) (p .1 .1 .0) _ (p .1 .1 .1 .0) _ (sym (c .before .before .before .before .node-at .ensures) ∙ c .before .before .n .given .1) (omega (arith, c .if1 .taken))
 
 first-in-requires : tie.Need-first-in-requires
 first-in-requires c κs =
@@ -69,7 +69,7 @@ same-length-2 c = search needs
 returns-3 : tie.Need-returns-3
 returns-3 c =
     let p = c .before .before .before .before .before .before .before .before .before .before .before .before .before .before .pre in
-    meets-child _ _ _ _ _ _ (p .1 .0) (p .1 .1 .0) _ (p .1 .1 .1 .0) _ (sym (c .before .before .before .before .before .before .before .node-at .ensures) ∙ c .before .before .before .before .before .n .given .1) (c .before .before .before .if1 .left)
+    meets-child _ _ _ _ _ _ (p .1 .0) (p .1 .1 .0) _ (p .1 .1 .1 .0) _ (sym (c .before .before .before .before .before .before .before .node-at .ensures) ∙ c .before .before .before .before .before .n .given .1) (omega (arith, c .before .before .before .if1 .left))
     (omega (arith, p .1 .1 .1 .1, c .before .before .before .if1 .left)) (omega (arith, p .1 .1 .1 .1, c .before .before .before .if1 .left)) _ _ (c .before .first-in .ensures) (c .past-last .ensures)
 
 pub descend-spec : {M : Type 1} → statement M

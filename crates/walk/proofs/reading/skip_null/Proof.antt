@@ -30,7 +30,7 @@ shared-slice-read-if1 : tie.Need-shared-slice-read-if1 Inv-loop μ-loop
 shared-slice-read-if1 c = search needs
 
 returns : tie.Need-returns Inv-loop μ-loop
-returns c = record { same = c .before .before .before .loop .inv; stops = λ h. c .if1 .taken }
+returns c = record { same = c .before .before .before .loop .inv; stops = λ h. omega (arith, c .if1 .taken) }
 
 add-j : tie.Need-add-j Inv-loop μ-loop
 add-j c = search needs

@@ -1,0 +1,5 @@
+pub mod Endings
+pub mod Leaves
+pub mod Samples
+pub mod Standings
+pub mod Tidies

@@ -1,0 +1,5 @@
+pub mod Conflicts
+pub mod Gathering
+pub mod Judging
+pub mod Rebuilds
+mod Samples
