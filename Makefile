@@ -6,6 +6,7 @@
 #   make second      the independent second program; last line 'second: N passed, M failed'
 #   make second-desk the second program's store against the desk library; last line 'desk: N passed, M failed'
 #   make desk-test   the desk library from C; last line 'desk: N passed, M failed'
+#   make desk-example   examples/desk.c, compiled and run; what it prints is held to examples/desk.expected
 #   make worst       look for key lists on which model choice is slow, for a minute
 #   make bench       the time each function of the C edge takes, and load and lookup beside a BTreeMap
 #   make bench-store the time each call of the desk library takes, beside a BTreeMap and a sorted array
@@ -31,7 +32,7 @@ need_cc = $(call need,$(CC),install a C11 compiler or name yours with 'make CC=.
 need_rustc = $(call need,$(RUSTC),install Rust or name its compiler with 'make RUSTC=..')
 need_rt = $(call need,rt,install the Rattle kit and put its rt on the PATH)
 
-.PHONY: test run edge-test second second-program second-desk desk-test worst bench bench-store clean
+.PHONY: test run edge-test second second-program second-desk desk-test desk-example worst bench bench-store clean
 
 test:
 	@test -x .ci/run || { echo ".ci/run is missing: take it from the repository again" >&2; exit 1; }
@@ -57,6 +58,13 @@ second-desk: $(DESK)
 	@mkdir -p target/second
 	@$(RUSTC) $(RUSTFLAGS) $(DESK_CFG) tests/second/desk_main.rs $(LINK_DESK) -o target/second/desk
 	@target/second/desk
+
+desk-example: $(DESK) $(EDGE)
+	$(need_cc)
+	@mkdir -p target/test
+	@$(CC) $(CFLAGS) examples/desk.c $(DESK) $(EDGE) -o target/test/desk-example
+	@target/test/desk-example | tee target/test/desk-example.out
+	@cmp -s target/test/desk-example.out examples/desk.expected || { echo "the desk example prints something else than examples/desk.expected: compare it with target/test/desk-example.out" >&2; exit 1; }
 
 desk-test: $(DESK)
 	$(need_cc)
