@@ -7,6 +7,7 @@
 #   make second-desk the second program's store against the desk library; last line 'desk: N passed, M failed'
 #   make desk-test   the desk library from C; last line 'desk: N passed, M failed'
 #   make desk-example   examples/desk.c, compiled and run; what it prints is held to examples/desk.expected
+#   make picture     docs/slots.svg: how a key finds its slot, drawn from what the desk library leaves in memory
 #   make worst       look for key lists on which model choice is slow, for a minute
 #   make bench       the time each function of the C edge takes, and load and lookup beside a BTreeMap
 #   make bench-store the time each call of the desk library takes, beside a BTreeMap and a sorted array
@@ -32,7 +33,7 @@ need_cc = $(call need,$(CC),install a C11 compiler or name yours with 'make CC=.
 need_rustc = $(call need,$(RUSTC),install Rust or name its compiler with 'make RUSTC=..')
 need_rt = $(call need,rt,install the Rattle kit and put its rt on the PATH)
 
-.PHONY: test run edge-test second second-program second-desk desk-test desk-example worst bench bench-store clean
+.PHONY: test run edge-test second second-program second-desk desk-test desk-example picture worst bench bench-store clean
 
 test:
 	@test -x .ci/run || { echo ".ci/run is missing: take it from the repository again" >&2; exit 1; }
@@ -65,6 +66,13 @@ desk-example: $(DESK) $(EDGE)
 	@$(CC) $(CFLAGS) examples/desk.c $(DESK) $(EDGE) -o target/test/desk-example
 	@target/test/desk-example | tee target/test/desk-example.out
 	@cmp -s target/test/desk-example.out examples/desk.expected || { echo "the desk example prints something else than examples/desk.expected: compare it with target/test/desk-example.out" >&2; exit 1; }
+
+picture: $(DESK) $(EDGE)
+	$(need_cc)
+	$(call need,python3,install Python 3)
+	@mkdir -p target/test
+	@$(CC) $(CFLAGS) tests/tree.c $(DESK) $(EDGE) -o target/test/tree
+	@target/test/tree | tools/picture > target/test/slots.svg && mv target/test/slots.svg docs/slots.svg
 
 desk-test: $(DESK)
 	$(need_cc)
