@@ -1,0 +1,4 @@
+pub mod Decimals
+pub mod Endian
+pub mod KindBytes
+pub mod Writing

@@ -1,0 +1,4 @@
+pub mod Blocks
+pub mod Printing
+pub mod Sessions
+pub mod Stepping
