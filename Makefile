@@ -9,7 +9,7 @@
 #   make desk-example   examples/desk.c, compiled and run; what it prints is held to examples/desk.expected
 #   make picture     docs/slots.svg: how a key finds its slot, drawn from what the desk library leaves in memory
 #   make worst       look for key lists on which model choice is slow, for a minute
-#   make bench       the time each function of the C edge takes, and load and lookup beside a BTreeMap
+#   make bench       the time each function of the C edge takes, load and lookup beside a BTreeMap, then bench-store
 #   make bench-store the time each call of the desk library takes, beside a BTreeMap and a sorted array
 #   make clean       remove target/
 
@@ -95,6 +95,7 @@ bench: $(EDGE) $(DESK)
 	@target/bench/leaves
 	@$(RUSTC) $(RUSTFLAGS) bench/load.rs $(LINK_DESK) -o target/bench/load
 	@target/bench/load
+	@$(MAKE) --no-print-directory bench-store
 
 bench-store: $(DESK)
 	$(need_rustc)
