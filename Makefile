@@ -5,6 +5,7 @@
 #   make edge-test   the C test alone; last line 'edge: N passed, M failed'
 #   make second      the independent second program; last line 'second: N passed, M failed'
 #   make second-desk the second program's store against the desk library; last line 'desk: N passed, M failed'
+#   make second-session  document 01's example session, written as text, through the second program's own session; held to what document 01 prints
 #   make desk-test   the desk library from C; last line 'desk: N passed, M failed'
 #   make desk-example   examples/desk.c, compiled and run; what it prints is held to examples/desk.expected
 #   make picture     docs/slots.svg: how a key finds its slot, drawn from what the desk library leaves in memory
@@ -33,7 +34,7 @@ need_cc = $(call need,$(CC),install a C11 compiler or name yours with 'make CC=.
 need_rustc = $(call need,$(RUSTC),install Rust or name its compiler with 'make RUSTC=..')
 need_rt = $(call need,rt,install the Rattle kit and put its rt on the PATH)
 
-.PHONY: test run edge-test second second-program second-desk desk-test desk-example picture worst bench bench-store clean
+.PHONY: test run edge-test second second-program second-desk second-session desk-test desk-example picture worst bench bench-store clean
 
 test:
 	@test -x .ci/run || { echo ".ci/run is missing: take it from the repository again" >&2; exit 1; }
@@ -59,6 +60,13 @@ second-desk: $(DESK)
 	@mkdir -p target/second
 	@$(RUSTC) $(RUSTFLAGS) $(DESK_CFG) tests/second/desk_main.rs $(LINK_DESK) -o target/second/desk
 	@target/second/desk
+
+second-session:
+	$(need_rustc)
+	$(call need,python3,install Python 3)
+	@mkdir -p target/second
+	@$(RUSTC) $(RUSTFLAGS) tests/second/session_main.rs -o target/second/session
+	@tools/session-text < tests/example.session | target/second/session | cmp - tests/example.printed || { echo "the second program's session prints something else than tests/example.printed" >&2; exit 1; }
 
 desk-example: $(DESK) $(EDGE)
 	$(need_cc)
