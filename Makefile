@@ -1,17 +1,23 @@
 # Tests, run example and benchmark over the proved crates. Everything built goes to target/.
 #
 #   make test        the whole gate: proofs, C test, second program (.ci/run)
-#   make run         the soundings P1 and P9 through the C edge
+#   make run         document 01's example session, written as text, through the session program; held to what document 01 prints
+#   make session     the session program, target/bin/session
+#   make answers     crates/session/stdin from tests/answers.session, and crates/session/stdout from the second program
+#   make show        the soundings P1 and P9 through the C edge
 #   make edge-test   the C test alone; last line 'edge: N passed, M failed'
 #   make second      the independent second program; last line 'second: N passed, M failed'
 #   make second-desk the second program's store against the desk library; last line 'desk: N passed, M failed'
 #   make second-session  document 01's example session, written as text, through the second program's own session; held to what document 01 prints
+#   make second-sessions  2,000,000 operations in whole sessions, through the session program and the desk library; last line 'sessions: N passed, 0 failed'
+#   make soak N=..   the same with N operations; the seed is random and printed, or given by SEED=..
+#   make memcheck    parts of both comparisons under Valgrind
 #   make desk-test   the desk library from C; last line 'desk: N passed, M failed'
 #   make desk-example   examples/desk.c, compiled and run; what it prints is held to examples/desk.expected
 #   make picture     docs/slots.svg: how a key finds its slot, drawn from what the desk library leaves in memory
 #   make worst       look for key lists on which model choice is slow, for a minute
 #   make bench       the time each function of the C edge takes, load and lookup beside a BTreeMap, then bench-store
-#   make bench-store the time each call of the desk library takes, beside a BTreeMap and a sorted array
+#   make bench-store the time each call of the desk library takes, beside a BTreeMap and a sorted array, and docs/speed.svg from what it measured
 #   make clean       remove target/
 
 CC = gcc
@@ -22,6 +28,7 @@ EDGE_DIR = target/staticlib
 EDGE = $(EDGE_DIR)/libedge.a
 LINK_EDGE = -L native=$(EDGE_DIR) -l static=edge
 DESK = $(EDGE_DIR)/libdesk.a
+SESSION = target/bin/session
 LINK_DESK = -L native=$(EDGE_DIR) -l static=desk
 # the calls that the desk library has today; 'all' stands for every one
 DESK_CALLS = unpack load lookup replace delete band insert
@@ -34,13 +41,29 @@ need_cc = $(call need,$(CC),install a C11 compiler or name yours with 'make CC=.
 need_rustc = $(call need,$(RUSTC),install Rust or name its compiler with 'make RUSTC=..')
 need_rt = $(call need,rt,install the Rattle kit and put its rt on the PATH)
 
-.PHONY: test run edge-test second second-program second-desk second-session desk-test desk-example picture worst bench bench-store clean
+need_python = $(call need,python3,install Python 3)
+
+.PHONY: test run session session-example answers show edge-test second second-program second-desk second-session second-sessions sessions-program soak memcheck desk-test desk-example picture worst bench bench-store clean
 
 test:
 	@test -x .ci/run || { echo ".ci/run is missing: take it from the repository again" >&2; exit 1; }
 	@.ci/run
 
-run: $(EDGE)
+run: session-example
+
+session: $(SESSION)
+
+session-example: $(SESSION)
+	$(need_python)
+	@mkdir -p target/test
+	@tools/session-text < tests/example.session | $(SESSION) | tee target/test/session-example.out
+	@cmp -s target/test/session-example.out tests/example.printed || { echo "the session program prints something else than tests/example.printed: compare it with target/test/session-example.out" >&2; exit 1; }
+
+answers: second-session
+	@tools/session-text < tests/answers.session > crates/session/stdin
+	@target/second/session < crates/session/stdin > crates/session/stdout
+
+show: $(EDGE)
 	$(need_cc)
 	@mkdir -p target/test
 	@$(CC) $(CFLAGS) tests/show.c $(EDGE) -o target/test/show
@@ -63,10 +86,37 @@ second-desk: $(DESK)
 
 second-session:
 	$(need_rustc)
-	$(call need,python3,install Python 3)
+	$(need_python)
 	@mkdir -p target/second
 	@$(RUSTC) $(RUSTFLAGS) tests/second/session_main.rs -o target/second/session
 	@tools/session-text < tests/example.session | target/second/session | cmp - tests/example.printed || { echo "the second program's session prints something else than tests/example.printed" >&2; exit 1; }
+
+second-sessions: sessions-program $(SESSION)
+	@target/second/sessions --program $(SESSION)
+
+N = 10000000
+SEED = $(shell od -An -N4 -tu4 /dev/urandom)
+soak: sessions-program $(SESSION)
+	@target/second/sessions --program $(SESSION) --operations $(N) --seed $(SEED)
+
+# lists lent without guards, each in a block of its own; the first error ends it
+MEMCHECK = valgrind --quiet --error-exitcode=9 --exit-on-first-error=yes
+MEMCHECK_FLAGS = $(RUSTFLAGS) -g --cfg exact
+memcheck: $(DESK) $(SESSION)
+	$(need_rustc)
+	$(call need,valgrind,install Valgrind (the package is named valgrind))
+	@mkdir -p target/memcheck
+	@$(RUSTC) $(MEMCHECK_FLAGS) $(DESK_CFG) tests/second/sessions_main.rs $(LINK_DESK) -o target/memcheck/sessions
+	@$(RUSTC) $(MEMCHECK_FLAGS) $(DESK_CFG) tests/second/desk_main.rs $(LINK_DESK) -o target/memcheck/desk
+	@$(MEMCHECK) target/memcheck/sessions --program "$(MEMCHECK) $(SESSION)" --operations 20000
+	@for part in unpack load lookup replace delete band "insert, long" "insert, due" "insert, harmed"; do \
+		$(MEMCHECK) target/memcheck/desk --only "$$part" || exit 1; done
+	@echo "memcheck: no error found"
+
+sessions-program: $(DESK)
+	$(need_rustc)
+	@mkdir -p target/second
+	@$(RUSTC) $(RUSTFLAGS) $(DESK_CFG) tests/second/sessions_main.rs $(LINK_DESK) -o target/second/sessions
 
 desk-example: $(DESK) $(EDGE)
 	$(need_cc)
@@ -77,7 +127,7 @@ desk-example: $(DESK) $(EDGE)
 
 picture: $(DESK) $(EDGE)
 	$(need_cc)
-	$(call need,python3,install Python 3)
+	$(need_python)
 	@mkdir -p target/test
 	@$(CC) $(CFLAGS) tests/tree.c $(DESK) $(EDGE) -o target/test/tree
 	@target/test/tree | tools/picture > target/test/slots.svg && mv target/test/slots.svg docs/slots.svg
@@ -109,7 +159,16 @@ bench-store: $(DESK)
 	$(need_rustc)
 	@mkdir -p target/bench
 	@$(RUSTC) $(RUSTFLAGS) $(DESK_CFG) bench/store.rs $(LINK_DESK) -o target/bench/store
-	@target/bench/store
+	$(need_python)
+	@target/bench/store --series target/bench/series.txt
+	@tools/speed < target/bench/series.txt > target/bench/speed.svg && mv target/bench/speed.svg docs/speed.svg
+
+# rt builds a program only when it proves it
+$(SESSION): $(PROVED)
+	$(need_rt)
+	@test -x $@ || rm -f target/stamp/session
+	@rt check session >&2
+	@touch $@
 
 $(EDGE): $(PROVED)
 	$(need_rt)

@@ -1,9 +1,12 @@
 //! How long the calls of the index take, beside the ordered map of Rust's standard library and a
 //! sorted array searched by halving, on the same keys in the same run. Prints a table: the time of
 //! one call (for a load: of the whole list), least of the repeats, and how many times as long as
-//! the other two the index takes. Below 1 the index is faster.
+//! the other two the index takes. Below 1 the index is faster. The three take turns, so that what
+//! disturbs one disturbs the others.
 //!
-//! Calls that the library lacks are left out: see tests/second/desk/library.rs.
+//!     store                  the tables
+//!     store --series FILE    and the times of lookup and insert against the number of keys, one
+//!                            measurement to a line, for tools/speed
 
 #![allow(dead_code)] // the second program's modules hold more than is measured here
 
@@ -31,56 +34,141 @@ use desk::stores::{need, payload_of, payloads_of, shuffled};
 use model::{KEY_END, MOST_KEYS};
 use random::Random;
 use std::collections::BTreeMap;
+use std::fmt::Write;
 use std::hint::black_box;
 use std::time::Instant;
 use store::answers::{Handle, Inserted, DONE};
 use store::pools::{Mem, Scratch, RECORDS, SLOTS};
 
 const SEED: u64 = 20_000;
-const REPEATS: usize = 9;
-/// In nanoseconds.
-const LONG_ENOUGH: f64 = 5e8;
+const REPEATS: usize = 41;
+/// In nanoseconds: no turn begins later.
+const LONG_ENOUGH: f64 = 1e9;
+/// A turn of a short call goes over so many.
+const MANY: usize = 20_000;
 /// A band lists this many.
 const BAND: usize = 64;
 
 fn main() {
+    let series = read_arguments();
+    for (call, there) in library::CALLS {
+        assert!(there, "the library has {call}");
+    }
     let random = &mut Random::new(SEED, 0);
-    println!(
-        "{:34} {:>6} {:>11} {:>11} {:>7} {:>11} {:>7}",
-        "one call", "keys", "index", "BTreeMap", "ratio", "array", "ratio"
-    );
-    for (call, _) in library::CALLS.iter().filter(|(_, there)| !there) {
-        println!("left out, since the library lacks it: {call}");
-    }
-    if !library::has("load") {
-        return;
-    }
-    load("load, uniform", &lists::uniform(MOST_KEYS, random));
+    let mut report = Report::default();
     load(
+        &mut report,
+        "load, uniform",
+        &lists::uniform(MOST_KEYS, random),
+    );
+    load(
+        &mut report,
         "load, near the drying end",
         &lists::crowded_soundings(MOST_KEYS, random),
     );
     for n in [512, 4_096, MOST_KEYS] {
-        let all = lists::soundings(n + n / 8, random);
-        let course = Course::new(all, n, random);
-        for (call, measure) in MEASURES {
-            if library::has(call) {
-                measure(&course, random);
-            }
+        let course = Course::soundings(n, random);
+        load(&mut report, "load", &course.sorted());
+        lookups(&mut report, "lookup, held", &course, &course.held, random);
+        lookups(
+            &mut report,
+            "lookup, absent",
+            &course,
+            &course.absent,
+            random,
+        );
+        bands(&mut report, &course, random);
+        replaces(&mut report, &course, random);
+        deletes(&mut report, &course);
+        inserts(&mut report, &course);
+        inserts_one_by_one(&mut report, &course);
+        inserts_barely(&mut report, &course);
+    }
+    report.print();
+    if let Some(file) = series {
+        let lines = measure_series(random);
+        std::fs::write(&file, lines).unwrap_or_else(|error| {
+            eprintln!("{file} could not be written: {error}");
+            std::process::exit(1);
+        });
+    }
+}
+
+fn read_arguments() -> Option<String> {
+    let words: Vec<String> = std::env::args().skip(1).collect();
+    match &words[..] {
+        [] => None,
+        [series, file] if series == "--series" => Some(file.clone()),
+        _ => {
+            eprintln!("usage: store [--series FILE]");
+            std::process::exit(2);
         }
     }
 }
 
-type Measure = fn(&Course, &mut Random);
+/// Times of one call of the index, the map and the array, in nanoseconds.
+type Three = [f64; 3];
 
-const MEASURES: [(&str, Measure); 6] = [
-    ("lookup", lookups),
-    ("band", bands),
-    ("replace", replaces),
-    ("delete", deletes),
-    ("insert", inserts),
-    ("insert", inserts_one_by_one),
-];
+/// The rows of the two tables.
+#[derive(Default)]
+struct Report {
+    rows: Vec<String>,
+    inserts: Vec<String>,
+}
+
+impl Report {
+    fn row(&mut self, what: &str, keys: usize, times: Three) {
+        let [ours, map, array] = times;
+        self.rows.push(format!(
+            "| {what:26} | {:>6} | {:>9} | {:>9} | {:>6.2} | {:>9} | {:>6.2} |",
+            grouped(keys as u64),
+            in_words(ours),
+            in_words(map),
+            ours / map,
+            in_words(array),
+            ours / array
+        ));
+    }
+
+    fn print(&self) {
+        println!("| one call                   |   keys |     index |  BTreeMap |  ratio |     array |  ratio |");
+        println!("|---|---|---|---|---|---|---|");
+        self.rows.iter().for_each(|row| println!("{row}"));
+        println!();
+        println!("| inserts | keys | records | slots | longest | conflicts | tidied | put off | whole tree |");
+        println!("|---|---|---|---|---|---|---|---|---|");
+        self.inserts.iter().for_each(|row| println!("{row}"));
+    }
+}
+
+/// Lookup and insert at 64, 128, .. keys, taken from one survey: a line is a call, the number of keys
+/// and the three times.
+fn measure_series(random: &mut Random) -> String {
+    let survey = lists::numbered_soundings(MOST_KEYS + MOST_KEYS / 8, random);
+    let mut survey = shuffled(survey, random);
+    let mut lines = String::new();
+    let mut n = 64;
+    while n <= MOST_KEYS {
+        survey.rotate_left(n);
+        let course = Course::new(survey[..n + n / 8].to_vec(), n);
+        let three = [
+            (
+                "lookup",
+                lookup_times(&course, &asked(&course.held, random)),
+            ),
+            ("insert", insert_times(&loaded_for(&course), &course.absent)),
+            (
+                "from-nothing",
+                insert_times(&nothing_for(&course), &course.held),
+            ),
+        ];
+        for (call, [ours, map, array]) in three {
+            writeln!(lines, "{call} {n} {ours:.2} {map:.2} {array:.2}").expect("it is a string");
+        }
+        n *= 2;
+    }
+    lines
+}
 
 /// An index in its pools.
 #[derive(Clone)]
@@ -128,42 +216,43 @@ impl Index {
     }
 
     fn insert(&mut self, key: u64) -> Inserted {
-        let inserted =
-            library::insert(self.handle, key, key, &mut self.pools, &mut self.scratch);
+        let inserted = library::insert(self.handle, key, key, &mut self.pools, &mut self.scratch);
         self.handle = inserted.handle;
         inserted
     }
 }
 
-fn load(what: &str, keys: &[u64]) {
+fn load(report: &mut Report, what: &str, keys: &[u64]) {
     let payloads = payloads_of(keys);
-    let mut index = Index::new(MOST_KEYS as u64, keys);
+    let capacity = keys.len() as u64;
+    let mut index = Index::new(capacity, keys);
     let (lent_keys, lent_payloads) = (List::new(keys), List::new(&payloads));
-    let ours = least(
-        || (),
-        |()| {
-            black_box(library::load(
-                MOST_KEYS as u64,
-                &lent_keys,
-                &lent_payloads,
-                &mut index.pools,
-            ));
-        },
-    );
     let pairs = || keys.iter().copied().zip(payloads.iter().copied());
-    let map = least(
-        || (),
-        |()| {
-            black_box(pairs().collect::<BTreeMap<u64, u64>>());
-        },
+    let times = in_turns(
+        1,
+        [
+            &mut timed(
+                || (),
+                |()| {
+                    let pools = &mut index.pools;
+                    black_box(library::load(capacity, &lent_keys, &lent_payloads, pools));
+                },
+            ),
+            &mut timed(
+                || (),
+                |()| {
+                    black_box(pairs().collect::<BTreeMap<u64, u64>>());
+                },
+            ),
+            &mut timed(
+                || (),
+                |()| {
+                    black_box(pairs().collect::<Vec<(u64, u64)>>());
+                },
+            ),
+        ],
     );
-    let array = least(
-        || (),
-        |()| {
-            black_box(pairs().collect::<Vec<(u64, u64)>>());
-        },
-    );
-    row(what, keys.len(), 1, [ours, map, array]);
+    report.row(what, keys.len(), times);
 }
 
 /// The three with the same keys, and keys that are not held.
@@ -176,9 +265,14 @@ struct Course {
 }
 
 impl Course {
-    /// n of the keys are held, the others are absent, each in random order.
-    fn new(all: Vec<u64>, n: usize, random: &mut Random) -> Course {
-        let mut held = shuffled(all, random);
+    /// n soundings are held and an eighth as many are absent, each in random order.
+    fn soundings(n: usize, random: &mut Random) -> Course {
+        let all = lists::numbered_soundings(n + n / 8, random);
+        Course::new(shuffled(all, random), n)
+    }
+
+    /// The first n keys are held, the others absent.
+    fn new(mut held: Vec<u64>, n: usize) -> Course {
         let absent = held.split_off(n);
         let mut sorted = held.clone();
         sorted.sort_unstable();
@@ -192,8 +286,8 @@ impl Course {
         }
     }
 
-    fn row(&self, what: &str, calls: usize, times: [f64; 3]) {
-        row(what, self.held.len(), calls, times);
+    fn sorted(&self) -> Vec<u64> {
+        self.array.iter().map(|&(key, _)| key).collect()
     }
 }
 
@@ -201,194 +295,262 @@ fn find(array: &[(u64, u64)], key: u64) -> Result<usize, usize> {
     array.binary_search_by_key(&key, |&(key, _)| key)
 }
 
-fn lookups(course: &Course, _: &mut Random) {
-    for (what, keys) in [
-        ("lookup, held", &course.held),
-        ("lookup, absent", &course.absent),
-    ] {
-        let Index { pools, handle, .. } = &course.index;
-        let ours = each(keys, |key| {
-            black_box(library::lookup(*handle, key, pools));
-        });
-        let map = each(keys, |key| {
-            black_box(course.map.get(&key));
-        });
-        let array = each(keys, |key| {
-            black_box(find(&course.array, key).map(|at| course.array[at].1).ok());
-        });
-        course.row(what, keys.len(), [ours, map, array]);
-    }
+/// MANY draws from these keys.
+fn asked(keys: &[u64], random: &mut Random) -> Vec<u64> {
+    let draw = |_| keys[random.below(keys.len() as u64) as usize];
+    (0..MANY).map(draw).collect()
 }
 
-fn bands(course: &Course, _: &mut Random) {
-    let Index { pools, handle, .. } = &course.index;
-    let starts = &course.held[..course.held.len().min(1_000)];
-    let (mut keys, mut payloads) = (List::new(&[0; BAND]), List::new(&[0; BAND]));
-    let ours = each(starts, |u| {
-        let end = KEY_END - 1;
-        black_box(library::band(
-            *handle,
-            u,
-            end,
-            pools,
-            &mut keys,
-            &mut payloads,
-        ));
-    });
-    let mut output = [(0, 0); BAND];
-    let map = each(starts, |u| {
-        let from = course.map.range(u..KEY_END);
-        for (place, (&key, &payload)) in output.iter_mut().zip(from) {
-            *place = (key, payload);
-        }
-        black_box(&output);
-    });
-    let array = each(starts, |u| {
-        let from = &course.array[find(&course.array, u).unwrap_or_else(|at| at)..];
-        let many = from.len().min(BAND);
-        output[..many].copy_from_slice(&from[..many]);
-        black_box(&output);
-    });
-    course.row("band of 64", starts.len(), [ours, map, array]);
-}
-
-fn replaces(course: &Course, _: &mut Random) {
-    let keys = &course.held;
-    let (mut index, mut map, mut array) = (
-        course.index.clone(),
-        course.map.clone(),
-        course.array.clone(),
+fn lookups(report: &mut Report, what: &str, course: &Course, keys: &[u64], random: &mut Random) {
+    report.row(
+        what,
+        course.held.len(),
+        lookup_times(course, &asked(keys, random)),
     );
-    let ours = each(keys, |key| {
-        black_box(library::replace(index.handle, key, key, &mut index.pools));
-    });
-    let map = each(keys, |key| {
-        if let Some(payload) = map.get_mut(&key) {
-            *payload = key;
-        }
-    });
-    let array_time = each(keys, |key| {
-        if let Ok(at) = find(&array, key) {
-            array[at].1 = key;
-        }
-    });
-    course.row("replace", keys.len(), [ours, map, array_time]);
+}
+
+fn lookup_times(course: &Course, keys: &[u64]) -> Three {
+    let Index { pools, handle, .. } = &course.index;
+    in_turns(
+        keys.len(),
+        [
+            &mut each(keys, |key| {
+                black_box(library::lookup(*handle, key, pools));
+            }),
+            &mut each(keys, |key| {
+                black_box(course.map.get(&key));
+            }),
+            &mut each(keys, |key| {
+                black_box(find(&course.array, key).map(|at| course.array[at].1).ok());
+            }),
+        ],
+    )
+}
+
+fn bands(report: &mut Report, course: &Course, random: &mut Random) {
+    let Index { pools, handle, .. } = &course.index;
+    let starts = &asked(&course.held, random)[..1_000];
+    let (mut keys, mut payloads) = (List::new(&[0; BAND]), List::new(&[0; BAND]));
+    let (mut from_map, mut from_array) = ([(0, 0); BAND], [(0, 0); BAND]);
+    let times = in_turns(
+        starts.len(),
+        [
+            &mut each(starts, |u| {
+                let (keys, payloads) = (&mut keys, &mut payloads);
+                black_box(library::band(
+                    *handle,
+                    u,
+                    KEY_END - 1,
+                    pools,
+                    keys,
+                    payloads,
+                ));
+            }),
+            &mut each(starts, |u| {
+                let from = course.map.range(u..KEY_END);
+                for (place, (&key, &payload)) in from_map.iter_mut().zip(from) {
+                    *place = (key, payload);
+                }
+                black_box(&from_map);
+            }),
+            &mut each(starts, |u| {
+                let from = &course.array[find(&course.array, u).unwrap_or_else(|at| at)..];
+                let many = from.len().min(BAND);
+                from_array[..many].copy_from_slice(&from[..many]);
+                black_box(&from_array);
+            }),
+        ],
+    );
+    report.row("band of 64", course.held.len(), times);
+}
+
+fn replaces(report: &mut Report, course: &Course, random: &mut Random) {
+    let keys = &asked(&course.held, random);
+    let mut index = course.index.clone();
+    let (mut map, mut array) = (course.map.clone(), course.array.clone());
+    let times = in_turns(
+        keys.len(),
+        [
+            &mut each(keys, |key| {
+                black_box(library::replace(index.handle, key, key, &mut index.pools));
+            }),
+            &mut each(keys, |key| {
+                if let Some(payload) = map.get_mut(&key) {
+                    *payload = key;
+                }
+            }),
+            &mut each(keys, |key| {
+                if let Ok(at) = find(&array, key) {
+                    array[at].1 = key;
+                }
+            }),
+        ],
+    );
+    report.row("replace", course.held.len(), times);
 }
 
 /// An eighth of the keys, one after another.
-fn deletes(course: &Course, _: &mut Random) {
+fn deletes(report: &mut Report, course: &Course) {
     let keys = &course.held[..course.held.len() / 8];
-    let ours = least(
-        || course.index.clone(),
-        |mut index| {
-            for &key in keys {
-                index.handle = library::delete(index.handle, key, &mut index.pools).handle;
-            }
-            black_box(&index);
-        },
+    let times = in_turns(
+        keys.len(),
+        [
+            &mut timed(
+                || course.index.clone(),
+                |index| {
+                    for &key in keys {
+                        index.handle = library::delete(index.handle, key, &mut index.pools).handle;
+                    }
+                    black_box(index);
+                },
+            ),
+            &mut timed(
+                || course.map.clone(),
+                |map| {
+                    for key in keys {
+                        map.remove(key);
+                    }
+                    black_box(map);
+                },
+            ),
+            &mut timed(
+                || course.array.clone(),
+                |array| {
+                    for &key in keys {
+                        if let Ok(at) = find(&array, key) {
+                            array.remove(at);
+                        }
+                    }
+                    black_box(array);
+                },
+            ),
+        ],
     );
-    let map = least(
-        || course.map.clone(),
-        |mut map| {
-            for key in keys {
-                map.remove(key);
-            }
-            black_box(&map);
-        },
-    );
-    let array = least(
-        || course.array.clone(),
-        |mut array| {
-            for &key in keys {
-                if let Ok(at) = find(&array, key) {
-                    array.remove(at);
-                }
-            }
-            black_box(&array);
-        },
-    );
-    course.row("delete", keys.len(), [ours, map, array]);
+    report.row("delete", course.held.len(), times);
 }
 
-/// The absent keys into an index of so many fewer.
-fn inserts(course: &Course, _: &mut Random) {
-    let new = &course.absent[..];
-    let mut kept: Vec<u64> = course.held[..course.held.len() - new.len()].to_vec();
-    kept.sort_unstable();
-    insert_into(course, "insert", &kept, new);
+/// Where inserts begin: an index and the keys in it, rising.
+struct Beginning {
+    index: Index,
+    keys: Vec<u64>,
 }
 
-/// All keys into an index of nothing: in the largest pools, and in pools barely large enough.
-fn inserts_one_by_one(course: &Course, _: &mut Random) {
-    let keys = &course.held[..];
-    let capacity = keys.len() as u64;
-    let ample = Index::empty(capacity, *RECORDS.end() as usize, *SLOTS.end() as usize);
-    insert_from(course, "insert, from nothing on", ample, &[], keys);
-    let barely = barely_enough(capacity, keys);
-    insert_from(course, "insert, barely enough room", barely, &[], keys);
+/// Loaded with so many keys that the absent ones make as many as are held.
+fn loaded_for(course: &Course) -> Beginning {
+    let many = course.held.len() - course.absent.len();
+    let mut keys = course.held[..many].to_vec();
+    keys.sort_unstable();
+    let index = Index::new(course.held.len() as u64, &keys);
+    Beginning { index, keys }
 }
 
-/// The least pools, in steps of a fifth of what a load of the keys needs, in which every insert is
-/// done.
-fn barely_enough(capacity: u64, keys: &[u64]) -> Index {
-    let mut sorted = keys.to_vec();
-    sorted.sort_unstable();
-    let (records, slots) = need(&sorted);
+/// Nothing, in the largest pools.
+fn nothing_for(course: &Course) -> Beginning {
+    let (records, slots) = (*RECORDS.end() as usize, *SLOTS.end() as usize);
+    Beginning {
+        index: Index::empty(course.held.len() as u64, records, slots),
+        keys: Vec::new(),
+    }
+}
+
+/// Nothing, in the least pools, in steps of a fifth of what a load of the keys needs, in which every
+/// insert is done.
+fn nothing_barely_for(course: &Course) -> Beginning {
+    let capacity = course.held.len() as u64;
+    let (records, slots) = need(&course.sorted());
     let fifths = |size: usize, most: u64, n: usize| (size * n / 5 + 64).min(most as usize);
-    (5..=40)
+    let index = (5..=40)
         .map(|n| {
-            let (records, slots) = (fifths(records, *RECORDS.end(), n), fifths(slots, *SLOTS.end(), n));
-            Index::empty(capacity, records, slots)
+            let records = fifths(records, *RECORDS.end(), n);
+            Index::empty(capacity, records, fifths(slots, *SLOTS.end(), n))
         })
         .find(|start| {
             let mut index = start.clone();
-            keys.iter().all(|&key| index.insert(key).number == DONE)
+            let mut keys = course.held.iter();
+            keys.all(|&key| index.insert(key).number == DONE)
         })
-        .expect("the largest pools are enough")
+        .expect("the largest pools are enough");
+    let keys = Vec::new();
+    Beginning { index, keys }
 }
 
-fn insert_into(course: &Course, what: &str, before: &[u64], new: &[u64]) {
-    let start = Index::new((before.len() + new.len()) as u64, before);
-    insert_from(course, what, start, before, new);
+fn inserts(report: &mut Report, course: &Course) {
+    let new = &course.absent;
+    insert_row(report, "insert", course, &loaded_for(course), new);
 }
 
-fn insert_from(course: &Course, what: &str, start: Index, before: &[u64], new: &[u64]) {
-    let ours = least(
-        || start.clone(),
-        |mut index| {
-            for &key in new {
-                index.insert(key);
+fn inserts_one_by_one(report: &mut Report, course: &Course) {
+    let new = &course.held;
+    insert_row(
+        report,
+        "insert, from nothing on",
+        course,
+        &nothing_for(course),
+        new,
+    );
+}
+
+fn inserts_barely(report: &mut Report, course: &Course) {
+    let (what, new) = ("insert, barely enough room", &course.held);
+    insert_row(report, what, course, &nothing_barely_for(course), new);
+}
+
+fn insert_row(report: &mut Report, what: &str, course: &Course, from: &Beginning, new: &[u64]) {
+    report.row(what, course.held.len(), insert_times(from, new));
+    let longest = longest(from.index.clone(), new);
+    let keys = grouped(course.held.len() as u64);
+    report
+        .inserts
+        .push(format!("| {what} | {keys} | {longest} |"));
+}
+
+/// Few keys go into several copies in one turn, so that it is not too short.
+fn insert_times(from: &Beginning, new: &[u64]) -> Three {
+    let copies = 64usize.div_ceil(new.len());
+    let array: Vec<(u64, u64)> = from.keys.iter().map(|&key| (key, key)).collect();
+    let map: BTreeMap<u64, u64> = array.iter().copied().collect();
+    let mut ours = timed(
+        || vec![from.index.clone(); copies],
+        |copies| {
+            for index in copies.iter_mut() {
+                for &key in new {
+                    index.insert(key);
+                }
+                let full = index.handle.count == index.handle.capacity;
+                assert!(full, "there is room");
             }
-            assert_eq!(index.handle.count, index.handle.capacity, "there is room");
         },
     );
-    let array: Vec<(u64, u64)> = before.iter().map(|&key| (key, key)).collect();
-    let map = least(
-        || array.iter().copied().collect::<BTreeMap<u64, u64>>(),
-        |mut map| {
-            for &key in new {
-                map.insert(key, key);
-            }
-            black_box(&map);
-        },
-    );
-    let array_time = least(
-        || array.clone(),
-        |mut array| {
-            for &key in new {
-                if let Err(at) = find(&array, key) {
-                    array.insert(at, (key, key));
+    let mut of_map = timed(
+        || vec![map.clone(); copies],
+        |copies| {
+            for map in copies.iter_mut() {
+                for &key in new {
+                    map.insert(key, key);
                 }
             }
-            black_box(&array);
+            black_box(copies);
         },
     );
-    course.row(what, new.len(), [ours, map, array_time]);
-    longest(start, new);
+    let mut of_array = timed(
+        || vec![array.clone(); copies],
+        |copies| {
+            for array in copies.iter_mut() {
+                for &key in new {
+                    if let Err(at) = find(array, key) {
+                        array.insert(at, (key, key));
+                    }
+                }
+            }
+            black_box(copies);
+        },
+    );
+    let calls = copies * new.len();
+    in_turns(calls, [&mut ours, &mut of_map, &mut of_array])
 }
 
-/// The longest of the inserts, and how many of them tidied or put it off.
-fn longest(mut index: Index, new: &[u64]) {
+/// The pools, the longest of the inserts, and how many of them tidied or put it off.
+fn longest(mut index: Index, new: &[u64]) -> String {
     let (mut longest, mut conflicts, mut tidyings) = (0.0f64, 0, [0; 4]);
     for &key in new {
         let start = Instant::now();
@@ -397,44 +559,42 @@ fn longest(mut index: Index, new: &[u64]) {
         conflicts += inserted.conflict;
         tidyings[inserted.tidying as usize] += 1;
     }
-    println!(
-        "    {} records, {} slots: longest {longest:.0} µs, conflicts {conflicts}, tidied {}, put off {}, whole tree {}",
-        index.handle.records, index.handle.slots, tidyings[1], tidyings[2], tidyings[3]
-    );
+    let Handle { records, slots, .. } = index.handle;
+    let [records, slots, conflicts] = [records, slots, conflicts].map(grouped);
+    let longest = grouped(longest as u64);
+    let [_, tidied, put_off, whole] = tidyings;
+    format!("{records} | {slots} | {longest} µs | {conflicts} | {tidied} | {put_off} | {whole}")
 }
 
-/// The least time in nanoseconds over the repeats; what is made ready before is not counted. No
-/// repeat begins after LONG_ENOUGH.
-fn least<Ready>(mut ready: impl FnMut() -> Ready, mut work: impl FnMut(Ready)) -> f64 {
-    let (mut least, mut all) = (f64::INFINITY, 0.0);
-    for _ in 0..REPEATS {
-        let made = ready();
+/// One turn: its time in nanoseconds, without that of what is made ready before and let go after.
+fn timed<Ready>(
+    mut ready: impl FnMut() -> Ready,
+    mut work: impl FnMut(&mut Ready),
+) -> impl FnMut() -> f64 {
+    move || {
+        let mut made = ready();
         let start = Instant::now();
-        work(made);
-        let time = start.elapsed().as_secs_f64() * 1e9;
-        least = least.min(time);
-        all += time;
-        if all > LONG_ENOUGH {
+        work(&mut made);
+        start.elapsed().as_secs_f64() * 1e9
+    }
+}
+
+fn each<'a>(keys: &'a [u64], mut call: impl FnMut(u64) + 'a) -> impl FnMut() -> f64 + 'a {
+    timed(|| (), move |()| keys.iter().for_each(|&key| call(key)))
+}
+
+/// The least time of one of so many calls, over the turns.
+fn in_turns(calls: usize, mut three: [&mut dyn FnMut() -> f64; 3]) -> Three {
+    let (mut least, start) = ([f64::INFINITY; 3], Instant::now());
+    for _ in 0..REPEATS {
+        for (turn, least) in three.iter_mut().zip(&mut least) {
+            *least = least.min(turn());
+        }
+        if start.elapsed().as_secs_f64() * 1e9 > LONG_ENOUGH {
             break;
         }
     }
-    least
-}
-
-fn each(keys: &[u64], mut call: impl FnMut(u64)) -> f64 {
-    least(|| (), |()| keys.iter().for_each(|&key| call(key)))
-}
-
-fn row(what: &str, keys: usize, calls: usize, times: [f64; 3]) {
-    let [ours, map, array] = times.map(|time| time / calls as f64);
-    println!(
-        "{what:34} {keys:>6} {:>11} {:>11} {:>7.2} {:>11} {:>7.2}",
-        in_words(ours),
-        in_words(map),
-        ours / map,
-        in_words(array),
-        ours / array
-    );
+    least.map(|time| time / calls as f64)
 }
 
 fn in_words(nanoseconds: f64) -> String {
@@ -443,4 +603,12 @@ fn in_words(nanoseconds: f64) -> String {
         n if n < 1e7 => format!("{:.1} µs", n / 1e3),
         n => format!("{:.1} ms", n / 1e6),
     }
+}
+
+/// In groups of three digits.
+fn grouped(number: u64) -> String {
+    if number < 1_000 {
+        return number.to_string();
+    }
+    format!("{},{:03}", grouped(number / 1_000), number % 1_000)
 }

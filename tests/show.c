@@ -1,5 +1,5 @@
 /*
- * What `make run` shows: the soundings P1 and P9 of document 01 taken through the C edge, as an
+ * What `make show` shows: the soundings P1 and P9 of document 01 taken through the C edge, as an
  * engine would. It also serves as a short example of calling the three functions.
  */
 #include "soorqabiye.h"

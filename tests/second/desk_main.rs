@@ -62,7 +62,7 @@ const SEED: u64 = 20_000;
 fn main() {
     let (seed, only) = read_arguments();
     println!("seed {seed}");
-    let mut compared = Compared::default();
+    let mut compared = Compared::new("desk");
     for (at, part) in (1..).zip(&PARTS) {
         if !part.name.starts_with(&only) {
             continue;

@@ -156,6 +156,15 @@ pub fn growing_gaps(n: usize, random: &mut Random) -> Vec<u64> {
 /// Depths mostly 0 to 20 m, some drying, numbered in the order taken or at random.
 pub fn soundings(n: usize, random: &mut Random) -> Vec<u64> {
     let numbered = random.one_in(2);
+    survey(n, numbered, random)
+}
+
+/// The same, numbered in the order taken.
+pub fn numbered_soundings(n: usize, random: &mut Random) -> Vec<u64> {
+    survey(n, true, random)
+}
+
+fn survey(n: usize, numbered: bool, random: &mut Random) -> Vec<u64> {
     let mut taken = 0;
     draw(n, || {
         let depth = if random.one_in(10) {

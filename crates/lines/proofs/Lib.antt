@@ -1,4 +1,5 @@
 pub mod Decimals
 pub mod Endian
 pub mod KindBytes
+pub mod Samples
 pub mod Writing

@@ -1,4 +1,5 @@
 pub mod Blocks
 pub mod Printing
+pub mod Runs
 pub mod Sessions
 pub mod Stepping

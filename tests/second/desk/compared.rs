@@ -47,6 +47,11 @@ impl Both {
     fn agree(&self) -> bool {
         self.theirs.holds(&self.ours)
     }
+
+    /// The first place of scratch after the last insert.
+    pub fn scratch_first(&self) -> u64 {
+        self.scratch.keys[0]
+    }
 }
 
 /// Fills a list with words that are not 0.
@@ -61,13 +66,24 @@ type Reached = (&'static str, u64, u64, u64);
 /// Counts the calls in which both agreed.
 #[derive(Default)]
 pub struct Compared {
+    /// The word that the last line begins with.
+    word: &'static str,
     pub cases: u64,
     /// How the memory at hand came about.
     pub about: String,
+    /// Which operation of a session is at hand, from 1; 0 outside sessions.
+    pub operation: u64,
     reached: BTreeMap<Reached, u64>,
 }
 
 impl Compared {
+    pub fn new(word: &'static str) -> Compared {
+        Compared {
+            word,
+            ..Compared::default()
+        }
+    }
+
     pub fn unpack(&mut self, key: u64) {
         let (ours, theirs) = (calls::unpack(key), library::unpack(key));
         let same = ours == theirs;
@@ -235,8 +251,11 @@ impl Compared {
         self.fail()
     }
 
-    fn fail(&self) -> ! {
-        println!("desk: {} passed, 1 failed", self.cases);
+    pub fn fail(&self) -> ! {
+        if self.operation > 0 {
+            println!("at operation {} of {}", self.operation, self.about);
+        }
+        println!("{}: {} passed, 1 failed", self.word, self.cases);
         std::process::exit(1);
     }
 

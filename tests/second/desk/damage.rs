@@ -32,6 +32,14 @@ impl Change {
     }
 }
 
+pub fn word(mem: &Mem, list: In, word: usize) -> u64 {
+    match list {
+        In::Nodes => mem.nodes[word],
+        In::Slots => mem.slots[word],
+        In::Used => mem.used[word],
+    }
+}
+
 /// The records of the tree, by their marks.
 pub fn nodes_of(mem: &Mem) -> Vec<(u64, Record)> {
     let marked = (0..mem.records()).filter(|&number| mem.record_used(number));

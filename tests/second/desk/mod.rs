@@ -8,9 +8,11 @@
 //!     crafted     stores made by hand: chains, shared nodes, trees that no store would build
 //!     memories    all of these, one after another, for the parts that try calls on each
 //!     sound       what holds in every undamaged store, read from the words
+//!     course      a sound store from call to call, its words read anew after each
 //!     part_..     the parts of the comparison
 
 pub mod compared;
+pub mod course;
 pub mod crafted;
 pub mod damage;
 pub mod lent;

@@ -1,16 +1,17 @@
-//! Undamaged stores: long sequences of calls, after each of which the words are read anew. The tree
-//! has to be sound, to hold what a plain ordered map would, and to be as deep as the visits say.
+//! Undamaged stores of all sizes: long sequences of calls, after each of which the words are read
+//! anew (see `course`).
 
-use super::compared::{Both, Compared};
+use super::compared::Compared;
+use super::course::Course;
+use super::damage::{self, Change, In};
 use super::library;
-use super::sound::{self, Found};
-use super::stores::{self, payload_of, payloads_of, Sizes, SESSION};
+use super::sound;
+use super::stores::{self, payload_of, Sizes, SESSION};
 use crate::lists;
 use crate::model::KEY_END;
 use crate::random::Random;
-use crate::store::answers::*;
-use crate::store::pools::Mem;
-use std::collections::BTreeMap;
+use crate::store::answers::WHOLE_TREE;
+use crate::store::pools::RECORD_WORDS;
 
 const ALL_SIZES: [Sizes; 8] = [
     SESSION,
@@ -38,6 +39,9 @@ pub fn compare(compared: &mut Compared, random: &mut Random) {
         }
     }
     large(compared, random);
+    for _ in 0..4 {
+        each_bit_noticed(compared, random);
+    }
     if library::has("insert") {
         for _ in 0..20 {
             deep(compared, random);
@@ -48,41 +52,36 @@ pub fn compare(compared: &mut Compared, random: &mut Random) {
     }
 }
 
-/// A store, the map that it should be, and keys to draw from.
-struct Course {
-    both: Both,
-    handle: Handle,
-    map: BTreeMap<u64, u64>,
-    pool: Vec<u64>,
-}
-
+/// Calls on keys drawn from one list.
 fn sequence(compared: &mut Compared, sizes: Sizes, random: &mut Random) {
-    let Some(mut course) = begin(compared, sizes, random) else {
+    let Some((mut course, pool)) = begin(compared, sizes, random) else {
         return;
     };
-    let steps = 4 * course.pool.len() as u64;
+    let steps = 4 * pool.len() as u64;
     for step in 0..steps {
         // now and then many are deleted one after another
         let wanted = if step % 97 > 80 { 5 } else { random.below(9) };
         match wanted {
             0..=4 if library::has("insert") => {
-                let key = course.a_key(false, random);
-                course.insert(compared, key);
+                let key = a_key(&course, &pool, false, random);
+                course.insert(compared, key, payload_of(key));
             }
             5 if library::has("delete") => {
-                let key = course.a_key(true, random);
+                let key = a_key(&course, &pool, true, random);
                 course.delete(compared, key);
             }
             6 if library::has("replace") => {
-                let key = course.a_key(true, random);
+                let key = a_key(&course, &pool, true, random);
                 course.replace(compared, key, random.any());
             }
             7 if library::has("band") => {
-                let key = course.a_key(true, random);
-                course.band(compared, key, random);
+                let key = a_key(&course, &pool, true, random);
+                let far = (key + random.of_bits(47)).min(KEY_END - 1);
+                let room = random.below(course.count() + 3) as usize;
+                course.band(compared, (key, far), room);
             }
             8 if library::has("lookup") => {
-                let key = course.a_key(random.one_in(2), random);
+                let key = a_key(&course, &pool, random.one_in(2), random);
                 course.lookup(compared, key);
             }
             _ => {}
@@ -90,8 +89,8 @@ fn sequence(compared: &mut Compared, sizes: Sizes, random: &mut Random) {
     }
 }
 
-/// A load of some of the keys that the sequence draws from.
-fn begin(compared: &mut Compared, sizes: Sizes, random: &mut Random) -> Option<Course> {
+/// A load of some of the keys that the sequence draws from, and these.
+fn begin(compared: &mut Compared, sizes: Sizes, random: &mut Random) -> Option<(Course, Vec<u64>)> {
     let n = random.between(1, sizes.capacity * 5 / 4 + 2) as usize;
     let (name, pool) = if random.one_in(2) {
         ("crowded", stores::crowded(n, random))
@@ -106,146 +105,20 @@ fn begin(compared: &mut Compared, sizes: Sizes, random: &mut Random) -> Option<C
         .copied()
         .filter(|_| random.one_in(part))
         .collect();
-    load(compared, sizes, &first, pool)
+    Some((Course::load(compared, sizes, &first)?, pool))
 }
 
-fn load(compared: &mut Compared, sizes: Sizes, first: &[u64], pool: Vec<u64>) -> Option<Course> {
-    let mut both = Both::new(&Mem::zeros(sizes.records, sizes.slots));
-    let payloads = payloads_of(first);
-    let loaded = compared.load(&mut both, sizes.capacity, first, &payloads);
-    if loaded.number != DONE {
-        return None;
-    }
-    let course = Course {
-        both,
-        handle: loaded.handle,
-        map: first.iter().copied().zip(payloads).collect(),
-        pool,
-    };
-    let found = course.check(compared);
-    course.check_built(compared, &found);
-    Some(course)
-}
-
-impl Course {
-    /// A key of the pool that is held, or that is not, as far as one is soon found.
-    fn a_key(&self, held: bool, random: &mut Random) -> u64 {
-        let any = |random: &mut Random| self.pool[random.below(self.pool.len() as u64) as usize];
-        let mut key = any(random);
-        for _ in 0..20 {
-            if self.map.contains_key(&key) == held || random.one_in(200) {
-                break;
-            }
-            key = any(random);
+/// A key of the pool that is held, or that is not, as far as one is soon found.
+fn a_key(course: &Course, pool: &[u64], held: bool, random: &mut Random) -> u64 {
+    let any = |random: &mut Random| pool[random.below(pool.len() as u64) as usize];
+    let mut key = any(random);
+    for _ in 0..20 {
+        if course.holds(key) == held || random.one_in(200) {
+            break;
         }
-        key
+        key = any(random);
     }
-
-    /// Reads all words anew and compares with the map.
-    fn check(&self, compared: &Compared) -> Vec<Found> {
-        let found = match sound::read(&self.both.ours, &self.handle) {
-            Ok(found) => found,
-            Err(what) => compared.wrong(&what),
-        };
-        let held = found.iter().map(|found| (found.key, found.payload));
-        if !held.eq(self.map.iter().map(|(&key, &payload)| (key, payload))) {
-            compared.wrong("the tree holds another map");
-        }
-        found
-    }
-
-    /// After a load or a whole rebuild the tree has at most H(n) nodes on a path.
-    fn check_built(&self, compared: &Compared, found: &[Found]) {
-        let deepest = found.iter().map(|found| found.visits).max().unwrap_or(1);
-        if deepest > sound::most_built(found.len() as u64) {
-            compared.wrong("deeper than H(n) after a build");
-        }
-    }
-
-    fn insert(&mut self, compared: &mut Compared, key: u64) {
-        let payload = payload_of(key);
-        let answer = compared.insert(&mut self.both, self.handle, key, payload);
-        let right = match answer.number {
-            DONE => self.map.insert(key, payload).is_none(),
-            HELD => self.map.contains_key(&key),
-            FULL => self.map.len() as u64 == self.handle.capacity && !self.map.contains_key(&key),
-            NO_ROOM => !self.map.contains_key(&key),
-            _ => false,
-        };
-        if !right {
-            compared.wrong(&format!("insert of {key} answers {}", answer.number));
-        }
-        self.handle = answer.handle;
-        let found = self.check(compared);
-        if answer.tidying == WHOLE_TREE {
-            self.check_built(compared, &found);
-        }
-    }
-
-    fn delete(&mut self, compared: &mut Compared, key: u64) {
-        let answer = compared.delete(&mut self.both, self.handle, key);
-        let held = self.map.remove(&key).is_some();
-        if answer.number != if held { DONE } else { NOT_HELD } {
-            compared.wrong(&format!("delete of {key} answers {}", answer.number));
-        }
-        self.handle = answer.handle;
-        self.check(compared);
-    }
-
-    fn replace(&mut self, compared: &mut Compared, key: u64, payload: u64) {
-        let answer = compared.replace(&mut self.both, self.handle, key, payload);
-        let held = self.map.get_mut(&key);
-        if answer.number != if held.is_some() { DONE } else { NOT_HELD } {
-            compared.wrong(&format!("replace of {key} answers {}", answer.number));
-        }
-        if let Some(old) = held {
-            *old = payload;
-        }
-        self.check(compared);
-    }
-
-    fn lookup(&mut self, compared: &mut Compared, key: u64) {
-        let answer = compared.lookup(&mut self.both, self.handle, key);
-        let found = self.check(compared);
-        let there = found.iter().find(|found| found.key == key);
-        let right = match there {
-            Some(there) => answer == looked(DONE, there.payload, there.visits),
-            None => answer.number == NOT_HELD && answer.visits >= 1,
-        };
-        if !right {
-            compared.wrong(&format!(
-                "lookup of {key} answers {answer:?}, found {there:?}"
-            ));
-        }
-    }
-
-    fn band(&mut self, compared: &mut Compared, key: u64, random: &mut Random) {
-        let far = (key + random.of_bits(47)).min(KEY_END - 1);
-        let room = random.below(self.map.len() as u64 + 3) as usize;
-        let (answer, keys, payloads) =
-            compared.band(&mut self.both, self.handle, (key, far), [room; 2]);
-        let mut all = self
-            .map
-            .range(key..=far)
-            .map(|(&key, &payload)| (key, payload));
-        let listed: Vec<(u64, u64)> = all.by_ref().take(room).collect();
-        let more = u64::from(all.next().is_some());
-        let theirs: Vec<(u64, u64)> = keys.into_iter().zip(payloads).collect();
-        if answer.number != DONE || theirs != listed || answer.more != more {
-            compared.wrong(&format!(
-                "band of {key} to {far} into {room} answers {answer:?}"
-            ));
-        }
-        self.check(compared);
-    }
-}
-
-fn looked(number: u64, payload: u64, visits: u64) -> Looked {
-    Looked {
-        number,
-        payload,
-        visits,
-    }
+    key
 }
 
 /// The largest stores: full, then a few calls.
@@ -255,15 +128,42 @@ fn large(compared: &mut Compared, random: &mut Random) {
         let first: Vec<u64> = pool.iter().copied().take(n - 2).collect();
         let sizes = sizes(n as u64, 16_384, 131_072);
         compared.about = format!("{n} soundings");
-        let Some(mut course) = load(compared, sizes, &first, pool.clone()) else {
+        let Some(mut course) = Course::load(compared, sizes, &first) else {
             compared.wrong("no room in the largest pools");
         };
         for &key in pool.iter().rev().take(6) {
             if library::has("insert") {
-                course.insert(compared, key);
+                course.insert(compared, key, payload_of(key));
             }
             if library::has("delete") {
                 course.delete(compared, pool[random.below(n as u64) as usize]);
+            }
+        }
+    }
+}
+
+/// The reading itself: no bit of a slot, of the map or of a record's L, start and last word can turn
+/// over unnoticed. (Other models may send the same keys to the same slots, and counters may differ.)
+fn each_bit_noticed(compared: &Compared, random: &mut Random) {
+    let sizes = sizes(60, 30, 260);
+    let keys = stores::crowded(40, random);
+    let Some(store) = stores::grown(sizes, &keys, random) else {
+        compared.wrong("no room for 40 keys");
+    };
+    let right = sound::read(&store.mem, &store.handle);
+    let records =
+        (0..store.mem.nodes.len()).filter(|word| [2, 3, 7].contains(&(word % RECORD_WORDS)));
+    let words = records.map(|word| (In::Nodes, word));
+    let words = words.chain((0..store.mem.slots.len()).map(|word| (In::Slots, word)));
+    let words = words.chain((0..store.mem.used.len()).map(|word| (In::Used, word)));
+    for (list, word) in words {
+        for bit in 0..64 {
+            let mut mem = store.mem.clone();
+            let value = damage::word(&mem, list, word) ^ 1 << bit;
+            let change = Change { list, word, value };
+            change.make(&mut mem);
+            if sound::read(&mem, &store.handle) == right {
+                compared.wrong(&format!("{change:?} goes unnoticed"));
             }
         }
     }
@@ -273,11 +173,12 @@ fn large(compared: &mut Compared, random: &mut Random) {
 fn deep(compared: &mut Compared, random: &mut Random) {
     let centre = random.below(KEY_END / 2);
     compared.about = format!("keys ever nearer to {centre}");
-    let Some(mut course) = load(compared, sizes(80, 90, 500), &[], vec![centre]) else {
+    let Some(mut course) = Course::load(compared, sizes(80, 90, 500), &[]) else {
         compared.wrong("no room for nothing");
     };
-    course.insert(compared, centre);
+    course.insert(compared, centre, payload_of(centre));
     for bit in (0..47).rev() {
-        course.insert(compared, centre + (1 << bit));
+        let key = centre + (1 << bit);
+        course.insert(compared, key, payload_of(key));
     }
 }

@@ -170,3 +170,18 @@ pub fn most_built(n: u64) -> u64 {
         1 + most_built(n.div_ceil(3))
     }
 }
+
+/// The nodes from the root to the slot of a key that holds no child, whether the key is held or not.
+pub fn nodes_to(mem: &Mem, handle: &Handle, key: u64) -> u64 {
+    let (mut number, mut nodes) = (handle.root as usize, 1);
+    loop {
+        let words = &mem.nodes[number * RECORD_WORDS..][..RECORD_WORDS];
+        let place = words[3] + slot_of(key, words[0], words[1], words[2]);
+        let first = mem.slots[place as usize * SLOT_WORDS];
+        if first >> 48 != 2 {
+            return nodes;
+        }
+        number = (first & ((1 << 48) - 1)) as usize;
+        nodes += 1;
+    }
+}
