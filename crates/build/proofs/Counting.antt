@@ -11,6 +11,7 @@ use borrow.Author.Tests.{eqb-true, eqb-false, eq-eqb, ne-eqb}
 use lib.Dec.{eqb}
 use lib.ListN.{length, getD, take, drop, set, length-append, length-drop, take-append-drop, drop-of-length-le}
 use lib.Seq.{sets, length-sets, getD-drop, drop-drop}
+use Rattle.laws.proofs.Sets.{sets-append}
 use Rattle.laws.proofs.Parts.{length-part, getD-part}
 use Rattle.laws.proofs.Risings.{rising-part}
 use Rattle.laws.proofs.Tests.{both, le-or-lt}
@@ -150,13 +151,6 @@ run-fewer-chosen ks r a b run two =
 pub run-fewer : {m : Model} {ks : List ℕ} {a b : ℕ} → m ≡ modelOf ks → Rising ks → RunEnd m ks a b → 2 ≤ b - a → b - a < length ks
 run-fewer {m} {ks} {a} {b} e r run two = run-fewer-chosen ks r a b (rw e at run) (omega arith)
 
--- stores one after the other
-sets-append : (l : List ℕ) (i : ℕ) (xs ys : List ℕ) → sets l i (xs ++ ys) ≡ sets (sets l i xs) (i + length xs) ys
-sets-append l i [] ys = let e : i + 0 ≡ i = omega arith in rw e
-sets-append l i (x ∷ xs) ys =
-    let e : i + suc (length xs) ≡ suc i + length xs = omega arith in
-    rw e (sets-append (set l i x) (suc i) xs ys)
-
 -- of the children, of at most d levels, of a node over ks: their sizes, and the highest
 abbrev childSizes : ℕ → Model → List ℕ → List ℕ
 childSizes d m ks = sizesUnder (sizesOf d) m (m .l) 0 ks
@@ -237,7 +231,7 @@ module _ {d : ℕ} {m : Model} {ks : List ℕ} {at : ℕ} {first list : List ℕ
         nodes-left = omega (arith, ap length s, length-append (sizesOf d part) rest);
         slots-left = omega (arith, ap total s, total-append (sizesOf d part) rest);
         depth-left = omega arith;
-        list-left = rw (place, counts .list) (sym (sets-append list (at + nodes) (sizesOf d part) rest) ∙ rw s at (left .list-left));
+        list-left = rw (place, counts .list) (sets-append list (at + nodes) (sizesOf d part) rest ∙ rw s at (left .list-left));
       }
 
 -- no keys, no children

@@ -1,1 +1,15 @@
+pub mod Coincide
+pub mod Demand1
+pub mod Demand2
+pub mod Demand3
+pub mod Examples
+pub mod Fields
+pub mod Growing
+pub mod Map
+pub mod Paths
+pub mod Placed
+pub mod Refusals
+pub mod Settling
+pub mod ShutOut
 pub mod Soundings
+pub mod Stores

@@ -1,83 +1,30 @@
 -- Insert's ways out, in the order of its refusals, and what holds at the end of a path that met no damage: the slot is one of the pool's,
 -- and the key there is one. Assumes nothing.
-use mathlib.Core.Bool.{Bool, true, false, _&&_}
-use mathlib.Core.List.{List, [], _∷_, _++_}
-use mathlib.Core.Path.{_≡_, refl, sym, ap, subst, _∙_}
-use Prim.Native.Nat.{ℕ, zero, suc, _+_, _*_, _/_, _<_, _≤_}
+use mathlib.Core.Bool.{true, false}
+use mathlib.Core.List.{List}
+use mathlib.Core.Path.{_≡_, sym, ap, subst, _∙_}
+use Prim.Native.Nat.{ℕ, _<_, _≤_}
 use native.Mathlib.Omega.{arith}
 use borrow.Author.Tests.{eq-eqb, ne-eqb, lt-ltb, le-ltb}
-use lib.Dec.{ltb, eqb}
-use lib.ListN.{length, getD, take}
+use lib.ListN.{length, take}
 use Rattle.counters.proofs.Traces.{traced-on-path}
 use Rattle.insert.proofs.Leaves.{scratch-given}
 use Rattle.insert.proofs.Standings.{leaves}
-use Rattle.insert.specs.Inserting.{Insert, insertion, scratchFits, fresh, settleOf, wholeOf, unlessFull, insertEnd, insertOf, inserted}
+use Rattle.insert.specs.Inserting.{Insert, scratchFits, fresh, settleOf, wholeOf, unlessFull, insertEnd, insertOf, inserted}
 use Rattle.insert.specs.Steps.{Ready, Sized, GoodPath, Ends}
 use Rattle.insert.specs.declared.Inserted.the-variants.{WrongSizes, OutOfRange, Held, Full, Damage}
 use Rattle.insert.specs.declared.Inserting.{Inserting}
 use Rattle.laws.specs.Keys.{keyBound}
-use Rattle.laws.specs.Pick.{pick}
-use Rattle.model.specs.Slots.{valueOf, slotOf}
-use Rattle.pool.proofs.Slots.{data-word}
-use Rattle.pool.specs.Memory.{Mem, recordsIn, slotsIn}
-use Rattle.pool.specs.Reading.{nodeAt, slotAt}
-use Rattle.pool.specs.declared.Node.{Node}
-use Rattle.pool.specs.declared.Record.{Record}
-use Rattle.pool.specs.declared.Record.the-variants.{Good, Broken}
-use Rattle.pool.specs.declared.Slot.{Slot}
-use Rattle.pool.specs.declared.Slot.the-variants.{Null, Data, Child, Broken as BrokenSlot}
-use Rattle.rebuild.specs.Judging.{Pooled}
-use Rattle.rebuild.specs.Pairs.{PairFits}
+use Rattle.pool.specs.Memory.{Mem}
 use Rattle.rebuild.specs.Rebuilding.{Scratch, scratch}
-use Rattle.store.proofs.Fitting.{Fits, fits-given, records-of, slots-of}
+use Rattle.store.proofs.Fitting.{fits-given, records-of, slots-of}
 use Rattle.store.specs.Handles.{handleFits}
 use Rattle.store.specs.declared.Handle.{Handle}
 use Rattle.walk.proofs.Paths.{Undamaged, path-short, path-good, path-sized, traced-end, traced-len, traced-whole, traced-at}
-use Rattle.walk.proofs.Walks.{walk-key-within, walk-empty-within}
-use Rattle.walk.specs.Walks.{longestPath, stepIn, keySlot, stepGood, stepAt, stepOf, Walk, walk, after, pathOf, walkFrom, walkOf, traceOf}
-use Rattle.walk.specs.declared.End.{End}
+use Rattle.walk.proofs.Walks.{walk-key-within, walk-key-small, walk-empty-within}
+use Rattle.walk.specs.Walks.{longestPath, walkOf, traceOf}
 use Rattle.walk.specs.declared.End.the-variants.{Empty, Key, Damage as EndDamage}
-use Rattle.walk.specs.declared.Path.{Path}
-use Rattle.walk.specs.declared.Step.{Step}
-use Rattle.walk.specs.declared.Step.the-variants.{Down, Stop}
 use Rattle.walk.specs.declared.Traced.{Traced}
-
--- a key at a walk's end is one
-abbrev EndKey : End → Type 0
-EndKey (Empty q) = Unit
-EndKey (Key q j) = j < keyBound
-EndKey (EndDamage c) = Unit
-
-abbrev StepKey : Step → Type 0
-StepKey (Down c) = Unit
-StepKey (Stop e) = EndKey e
-
-module _ (m : Mem) (k : ℕ) where
-  slot-key : (n : Node) (j q : ℕ) (s : Slot) → slotAt (m .slots) n j ≡ s → StepKey (stepIn q s)
-  unfolding stepIn
-  slot-key n j q Null e = tt
-  slot-key n j q (Data x) e = data-word (m .slots) n j x e .small
-  slot-key n j q (Child c) e = tt
-  slot-key n j q (BrokenSlot c) e = tt
-
-  record-key : (x : Record) → StepKey (stepAt m k x)
-  unfolding stepAt stepGood
-  record-key (Good n) = slot-key n (slotOf (n .model) (valueOf k)) (keySlot n k) (slotAt (m .slots) n (slotOf (n .model) (valueOf k))) refl
-  record-key (Broken c) = tt
-
-  after-key : (s : Step) (p : List ℕ) (go : ℕ → Walk) → StepKey s → ((c : ℕ) → EndKey (go c .end)) → EndKey (after s p go .end)
-  unfolding after
-  after-key (Down c) p go h f = f c
-  after-key (Stop e) p go h f = h
-
-  walk-key : (f r : ℕ) (p : List ℕ) → EndKey (walkFrom m k f r p .end)
-  unfolding walkFrom stepOf
-  walk-key zero r p = tt
-  walk-key (suc f) r p = after-key (stepOf m r k) (p ++ (r ∷ [])) (λ c. walkFrom m k f c (p ++ (r ∷ []))) (record-key (nodeAt m r)) (λ c. walk-key f c (p ++ (r ∷ [])))
-
-  end-key : (root q j : ℕ) → walkOf m root k .end ≡ Key q j → j < keyBound
-  unfolding walkOf
-  end-key root q j e = subst EndKey e (walk-key longestPath root [])
 
 -- what is known once the sizes and the key passed and there is space for one more
 pub ready : (h : Handle) (k : ℕ) (m : Mem) (ks ps qs : List ℕ) → handleFits h m ≡ true → scratchFits (h .capacity) (scratch ks ps qs) ≡ true → k < keyBound → h .count < h .capacity
@@ -142,7 +89,7 @@ module _ (m : Mem) (root k : ℕ) (t : Traced) (is : t ≡ traceOf m root k) whe
       let w = sym (traced-end m root k t is) ∙ e in
       record {
         slot = walk-key-within m k root q j w;
-        pair = record { first = λ z. lt; second = λ z. end-key m k root q j w; apart = λ z f. n (sym f) };
+        pair = record { first = λ z. lt; second = λ z. walk-key-small m k root q j w; apart = λ z f. n (sym f) };
         sized = traced-sized;
         on = traced-on-path m root k t is u;
         good = traced-good u;

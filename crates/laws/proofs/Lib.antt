@@ -2,4 +2,5 @@ pub mod Bytes
 pub mod Parts
 pub mod Quotients
 pub mod Risings
+pub mod Sets
 pub mod Tests

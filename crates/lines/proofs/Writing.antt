@@ -1,16 +1,12 @@
 -- Text written in parts is written whole, and a list that is written into keeps its length. Assumes nothing.
-use mathlib.Core.List.{List, [], _∷_, _++_}
-use mathlib.Core.Path.{_≡_, refl, sym, ap, _∙_}
-use Prim.Native.Nat.{ℕ, suc, _+_}
+use mathlib.Core.List.{List, [], _++_}
+use mathlib.Core.Path.{_≡_, ap, _∙_}
+use Prim.Native.Nat.{ℕ, _+_}
 use native.Mathlib.Omega.{arith}
-use lib.ListN.{length, set, length-append}
-use lib.Seq.{sets, length-sets}
-use Rattle.lines.specs.Lines.{Text, text, write}
-
--- values in two parts, one after the other
-sets-append : (l : List ℕ) (i : ℕ) (xs ys : List ℕ) → sets (sets l i xs) (i + length xs) ys ≡ sets l i (xs ++ ys)
-sets-append l i [] ys = let e : i + 0 ≡ i = omega arith in rw e
-sets-append l i (x ∷ xs) ys = let e : i + suc (length xs) ≡ suc i + length xs = omega arith in rw e (sets-append (set l i x) (suc i) xs ys)
+use lib.ListN.{length, length-append}
+use lib.Seq.{length-sets}
+use Rattle.laws.proofs.Sets.{sets-append}
+use Rattle.lines.specs.Lines.{Text, write}
 
 pub write-more : (t : Text) (a b : List ℕ) → write (write t a) b ≡ write t (a ++ b)
 unfolding write

@@ -1,19 +1,20 @@
 -- Gathering the keys of a rebuild: the live keys up to the new one, the new key, and the live keys after it are as many as scratch has
 -- places for, rise, and stand in scratch from the front. Assumes nothing.
 use mathlib.Core.Bool.{true, false}
-use mathlib.Core.List.{List, [], _∷_, _++_, map}
+use mathlib.Core.List.{List, _∷_, _++_}
 use mathlib.Core.Logic.{⊎-elim}
-use mathlib.Core.Path.{_≡_, refl, sym, ap, _∙_}
-use Prim.Native.Nat.{ℕ, zero, suc, _+_, _-_, _^_, _<_, _≤_}
+use mathlib.Core.Path.{_≡_, refl, sym, _∙_}
+use Prim.Native.Nat.{ℕ, suc, _+_, _-_, _<_, _≤_}
 use native.Mathlib.Omega.{arith}
 use lib.ListN.{length, getD, set, length-append, length-map, List·getD-append}
 use lib.Seq.{sets, getD-append-seam, getD-append-add}
+use Rattle.laws.proofs.Sets.{sets-append}
 use Rattle.laws.proofs.Tests.{le-or-lt}
 use Rattle.laws.specs.Keys.{keyBound, Rising}
 use Rattle.listing.proofs.Counts.{counted-done, counted-damage}
 use Rattle.listing.proofs.Halves.{listed-between, halves-few}
 use Rattle.listing.proofs.Keys.{Ruled, listing-ruled}
-use Rattle.listing.specs.Listing.{Listing, listing, countFrom}
+use Rattle.listing.specs.Listing.{listing, countFrom}
 use Rattle.listing.specs.declared.Counted.{Counted}
 use Rattle.listing.specs.declared.Counted.the-variants.{Done, Damage}
 use Rattle.pool.specs.Memory.{Mem, recordsIn, payloadWord}
@@ -24,12 +25,7 @@ use Rattle.walk.specs.Items.{items}
 use Rattle.walk.specs.declared.Rules.{Rules}
 use Rattle.walk.specs.declared.Span.the-variants.{Whole}
 
--- values in two parts, one after the other
-pub sets-append : (l : List ℕ) (i : ℕ) (xs ys : List ℕ) → sets (sets l i xs) (i + length xs) ys ≡ sets l i (xs ++ ys)
-sets-append l i [] ys = let e : i + 0 ≡ i = omega arith in rw e
-sets-append l i (x ∷ xs) ys = let e : i + suc (length xs) ≡ suc i + length xs = omega arith in rw e (sets-append (set l i x) (suc i) xs ys)
-
--- and one between them
+-- two parts with one value between them
 sets-between : (l : List ℕ) (xs : List ℕ) (y : ℕ) (ys : List ℕ) → sets (set (sets l 0 xs) (length xs) y) (length xs + 1) ys ≡ sets l 0 (xs ++ (y ∷ ys))
 sets-between l xs y ys =
     let e : length xs + 1 ≡ suc (length xs) = omega arith in

@@ -7,10 +7,11 @@ use native.Mathlib.Nat.{add-zero}
 use native.Mathlib.Omega.{arith}
 use lib.ListN.{length, getD, set, replicate, length-append}
 use lib.Seq.{sets}
+use Rattle.laws.specs.Keys.{keyBound}
 use Rattle.model.specs.Slots.{slotOf}
 use Rattle.model.proofs.Slots.{slot-under}
 use Rattle.pool.proofs.Nodes.{good-node}
-use Rattle.pool.proofs.Slots.{DataSlot, data-reads}
+use Rattle.pool.proofs.Slots.{DataSlot, data-reads, data-word}
 use Rattle.pool.specs.Memory.{Mem, kindWord, dataKind, kindUnit, slotsIn}
 use Rattle.pool.specs.Reading.{slotAt, nodeAt}
 use Rattle.pool.specs.declared.Node.{Node}
@@ -192,31 +193,31 @@ pub empty-nodes : (p : Path) → p ≡ pathOf [] → length (p .nodes) ≡ longe
 unfolding pathOf
 empty-nodes p e = ap (λ (x : Path). length (x .nodes)) e
 
--- the slot that a walk ends at is one of the pool's
+-- the slot that a walk ends at is one of the pool's, and a key there is one
 abbrev StepIn : ℕ → Step → Type 0
 StepIn n (Down c) = Unit
 StepIn n (Stop (Empty q)) = q < n
-StepIn n (Stop (Key q k)) = q < n
+StepIn n (Stop (Key q k)) = (q < n) × (k < keyBound)
 StepIn n (Stop (Damage c)) = Unit
 
 abbrev EndIn : ℕ → End → Type 0
 EndIn n (Empty q) = q < n
-EndIn n (Key q k) = q < n
+EndIn n (Key q k) = (q < n) × (k < keyBound)
 EndIn n (Damage c) = Unit
 
 module _ (m : Mem) (k : ℕ) where
-  slot-in : (q : ℕ) (s : Slot) → q < slotsIn (m .slots) → StepIn (slotsIn (m .slots)) (stepIn q s)
+  slot-in : (n : Node) (j q : ℕ) (s : Slot) → slotAt (m .slots) n j ≡ s → q < slotsIn (m .slots) → StepIn (slotsIn (m .slots)) (stepIn q s)
   unfolding stepIn
-  slot-in q Null h = h
-  slot-in q (Data j) h = h
-  slot-in q (Child c) h = tt
-  slot-in q (BrokenSlot c) h = tt
+  slot-in n j q Null e h = h
+  slot-in n j q (Data x) e h = (h, data-word (m .slots) n j x e .small)
+  slot-in n j q (Child c) e h = tt
+  slot-in n j q (BrokenSlot c) e h = tt
 
   record-in : (r : ℕ) (x : Record) → nodeAt m r ≡ x → StepIn (slotsIn (m .slots)) (stepAt m k x)
   unfolding stepAt stepGood keySlot
   record-in r (Good n) e =
       let g = good-node m r n e in
-      slot-in (n .start + slotOf (n .model) k) (slotAt (m .slots) n (slotOf (n .model) k)) (omega (arith, g .fits, slot-under (n .model) (g .range) k))
+      slot-in n (slotOf (n .model) k) (n .start + slotOf (n .model) k) (slotAt (m .slots) n (slotOf (n .model) k)) refl (omega (arith, g .fits, slot-under (n .model) (g .range) k))
   record-in r (Broken c) e = tt
 
   after-in : (n : ℕ) (s : Step) (p : List ℕ) (go : ℕ → Walk) → StepIn n s → ((c : ℕ) → EndIn n (go c .end)) → EndIn n (after s p go .end)
@@ -233,7 +234,11 @@ module _ (m : Mem) (k : ℕ) where
 
   pub walk-key-within : (root q j : ℕ) → walkOf m root k .end ≡ Key q j → q < slotsIn (m .slots)
   unfolding walkOf
-  walk-key-within root q j e = subst (EndIn (slotsIn (m .slots))) e (walk-in longestPath root [])
+  walk-key-within root q j e = subst (EndIn (slotsIn (m .slots))) e (walk-in longestPath root []) .0
+
+  pub walk-key-small : (root q j : ℕ) → walkOf m root k .end ≡ Key q j → j < keyBound
+  unfolding walkOf
+  walk-key-small root q j e = subst (EndIn (slotsIn (m .slots))) e (walk-in longestPath root []) .1
 
   pub walk-empty-within : (root q : ℕ) → walkOf m root k .end ≡ Empty q → q < slotsIn (m .slots)
   unfolding walkOf
