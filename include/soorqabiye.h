@@ -1,5 +1,7 @@
 /*
- * soorqabiye.h: the three leaf functions of the Soorqabiye index, for C.
+ * soorqabiye.h: the Soorqabiye index, for C. This file has the three leaf functions; the store's own
+ * calls (load, lookup, band, insert, replace, delete, and unpacking of keys) stand in
+ * soorqabiye_desk.h, each with its answers, and are included at the end.
  *
  *   soorqabiye_pack          a sounding's depth and number made into its key
  *   soorqabiye_slot_choice   the slot of a node that a key goes to
@@ -131,6 +133,7 @@ struct soorqabiye_model soorqabiye_model_choice(const uint8_t *keys, size_t leng
 }
 #endif
 
+
 /* Each answer is whole 64-bit words with nothing between them, and size_t is one of them. */
 #if defined(__cplusplus) && __cplusplus >= 201103L
 #define SOORQABIYE_ASSERT static_assert
@@ -144,5 +147,8 @@ SOORQABIYE_ASSERT(sizeof(struct soorqabiye_model) == 48, "an answer of six words
 SOORQABIYE_ASSERT(sizeof(size_t) == 8, "the library is for 64-bit hosts");
 #undef SOORQABIYE_ASSERT
 #endif
+
+/* the store's calls */
+#include "soorqabiye_desk.h"
 
 #endif
