@@ -18,6 +18,7 @@
 #   make worst       look for key lists on which model choice is slow, for a minute
 #   make bench       the time each function of the C edge takes, load and lookup beside a BTreeMap, then bench-store
 #   make bench-store the time each call of the desk library takes, beside a BTreeMap and a sorted array, and docs/speed.svg from what it measured
+#   make more-edits  the wrong edits under tests/edits, which the gate leaves out; every one has to be refused
 #   make clean       remove target/
 
 CC = gcc
@@ -43,7 +44,7 @@ need_rt = $(call need,rt,install the Rattle kit and put its rt on the PATH)
 
 need_python = $(call need,python3,install Python 3)
 
-.PHONY: test run session session-example answers show edge-test second second-program second-desk second-session second-sessions sessions-program soak memcheck desk-test desk-example picture worst bench bench-store clean
+.PHONY: test run session session-example answers show edge-test second second-program second-desk second-session second-sessions sessions-program soak memcheck desk-test desk-example picture worst bench bench-store clean more-edits
 
 test:
 	@test -x .ci/run || { echo ".ci/run is missing: take it from the repository again" >&2; exit 1; }
@@ -177,6 +178,10 @@ $(EDGE): $(PROVED)
 $(DESK): $(PROVED)
 	$(need_rt)
 	@rt staticlib desk >&2
+
+more-edits:
+	$(need_rt)
+	@tools/more-edits
 
 clean:
 	rm -rf target
