@@ -25,7 +25,7 @@ use Rattle.pool.specs.Writing.{putNode}
 use Rattle.demands.specs.Growing.{freshHead}
 use Rattle.demands.specs.Placed.{modelIn, Head, Branch, null, sub, Forest, nil, cons, len, Cell, empty, node, Word, bit, inNode, inSlot, headWords, cellW, at, inB, inF, view, OkF, Words}
 use Rattle.demands.proofs.Plugs.{at-same, at-other, none-B}
-use Rattle.demands.proofs.Walking.{Sized, Kept, nodeOf, view-node, view-slot, records-are, slots-are}
+use Rattle.demands.proofs.Walking.{Sized, Kept, nodeOf, view-node, view-slot, node-past, slot-past, records-are, slots-are}
 
 -- sized memory whose unused places are zero
 pub record Fine (R S : ℕ) (m : Mem) : Type 0 where
@@ -106,14 +106,6 @@ pub record Free (R S : ℕ) (m : Mem) (r s l : ℕ) : Type 0 where
 pub bit-zero : (R : ℕ) (m : Mem) (x : ℕ) → usedAt (m .used) x ≡ false → view R m x bit ≡ 0
 unfolding view
 bit-zero R m x e = unused-zero (m .used) x e
-
-pub node-past : (R : ℕ) (m : Mem) (x i : ℕ) → 8 ≤ i → view R m x (inNode i) ≡ 0
-unfolding view
-node-past R m x i h = rw (le-ltb i 8 h)
-
-pub slot-past : (R : ℕ) (m : Mem) (x i : ℕ) → 2 ≤ i → view R m x (inSlot i) ≡ 0
-unfolding view
-slot-past R m x i h = rw (le-ltb i 2 h)
 
 -- two memories that differ at one record and one run at most
 module _ (R : ℕ) (m o : Mem) (r s l : ℕ) (bits : (x : ℕ) → (x ≡ r → ⊥) → (x < R + s) ⊎ (R + s + l ≤ x) → view R o x bit ≡ view R m x bit)

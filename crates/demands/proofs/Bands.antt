@@ -48,6 +48,10 @@ reads-all R S m s ru d t g z o k e a =
     append-nil-items : (m : Mem) (ru : Rules) (is : List Item) → is ++ items m ru [] ≡ is
     append-nil-items m ru is = ap (λ (x : List Item). is ++ x) (no-items m ru) ∙ append-nil is
 
+pub all-least : (l : Map) → EachKey (λ x. 0 ≤ x) l
+all-least [] = tt
+all-least (x ∷ l) = (zero-le, all-least l)
+
 -- a band's rules
 band-allowed : (R S : ℕ) (m : Mem) (t : Head) (g : Forest) → Kept R S m (sub t g) → Allowed (bandRules (recordsIn (m .nodes))) (nodesB (sub t g)) (flatF g)
 band-allowed R S m t g k = record {
@@ -56,10 +60,6 @@ band-allowed R S m t g k = record {
   fresh = λ e. absurd (true-not-false (sym e));
   least = all-least (flatF g);
 }
-  where
-    all-least : (l : Map) → EachKey (λ x. 0 ≤ x) l
-    all-least [] = tt
-    all-least (x ∷ l) = (zero-le, all-least l)
 
 pub size-keys : (l : Map) → length (keysOf l) ≡ size l
 size-keys [] = refl

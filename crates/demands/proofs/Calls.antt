@@ -21,7 +21,7 @@ use Rattle.store.specs.declared.Handle.{Handle}
 use Rattle.store.specs.declared.Search.{Search}
 use Rattle.store.specs.declared.Search.the-variants.{At, NotThere}
 use Rattle.walk.specs.Walks.{walk, walkOf}
-use Rattle.demands.specs.Demand2.{visits, foundAs, LookupAnswers, same, Changes, ReplaceAnswers, DeleteAnswers}
+use Rattle.demands.specs.Demand2.{visits, foundAs, LookupAnswers, same, Changes, ReplaceAnswers, DeleteAnswers, rootOf}
 use Rattle.demands.specs.Map.{Map, EachKey, is, nil as none, member, lookup, insert, delete, update, size}
 use Rattle.demands.specs.Paths.{pathB, graftB, graftEnd}
 use Rattle.demands.specs.Placed.{Head, Branch, null, leaf, sub, Forest, flatB, flatF, inSlot, cellW, cellOf, Frame, plug, Follows, preC, postC, Good, Holds}
@@ -31,7 +31,7 @@ use Rattle.demands.proofs.Changing.{still, up-still, put-good}
 use Rattle.demands.proofs.Fitting.{good-kept, kept-good}
 use Rattle.demands.proofs.Plugs.{End, flat-plug, pre-less, post-more}
 use Rattle.demands.proofs.Walking.{Kept, placeOf, recordsOn, records-length, endTo, walk-good, end-slot, holds-all}
-use Rattle.demands.proofs.Ways.{Way, way, rootOf, path-plug, graft-plug}
+use Rattle.demands.proofs.Ways.{Way, way, path-plug, graft-plug}
 
 -- what the calls find on a key's way
 abbrev pub searchAs : ℕ → ℕ → ℕ → Branch → Search

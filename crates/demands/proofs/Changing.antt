@@ -8,7 +8,7 @@ use Prim.Native.Nat.{ℕ, zero, suc, _+_, _*_, _-_, _<_, _≤_}
 use lib.Dec.{eqb, ltb}
 use lib.ListN.{length, getD, set, length-set}
 use lib.Seq.{getD-set-same, getD-set-other}
-use borrow.Author.Tests.{eqb-true, eqb-false, le-ltb, ltb-true, ltb-false}
+use borrow.Author.Tests.{eqb-true, eqb-false, ltb-true, ltb-false}
 use Rattle.laws.proofs.Tests.{both}
 use Rattle.pool.specs.Memory.{Mem}
 use Rattle.walk.specs.Walks.{longestPath}
@@ -16,7 +16,7 @@ use Rattle.demands.specs.Map.{EachKey}
 use Rattle.demands.specs.Placed.{Branch, null, leaf, sub, cons, flatB, depthB, Cell, child, node, cellOf, Word, bit, inNode, inSlot, cellW, at, inB, inF, view, OkB, Words, Frame, plug, width, Follows, preC, postC}
 use Rattle.demands.proofs.Plugs.{at-same, at-other, flat-plug, depth-app, deep-in, deep-plug, frame-of, of-frame, ok-plug, End}
 use Rattle.demands.proofs.Reading.{spot, in-frame, Holds, holds-below, read-spot}
-use Rattle.demands.proofs.Walking.{Sized, Kept, placeOf, view-slot, holds-all}
+use Rattle.demands.proofs.Walking.{Sized, Kept, placeOf, view-slot, slot-past, holds-all}
 
 -- counters changed: the model and the place stay
 pub record Count : Type 0 where
@@ -128,10 +128,6 @@ end-in R φ x null e = refl
 end-in R φ x (leaf k p) e = refl
 end-in R φ x (sub h g) e = absurd e
 
-view-past : (R : ℕ) (m : Mem) (x i : ℕ) → 2 ≤ i → view R m x (inSlot i) ≡ 0
-unfolding view
-view-past R m x i h = rw (le-ltb i 2 h)
-
 end-deep : (b : Branch) → End b → depthB b ≡ 0
 end-deep null e = refl
 end-deep (leaf k p) e = refl
@@ -164,7 +160,7 @@ module _ (R : ℕ) (m : Mem) (q a v : ℕ) where
     pub put-words : (d : Branch) → a ≡ cellW (inSlot 0) (cellOf d) → v ≡ cellW (inSlot 1) (cellOf d) → (i : ℕ) → view R (putSlot m q a v) (R + q) (inSlot i) ≡ cellW (inSlot i) (cellOf d)
     put-words d ea ev zero = put-first ∙ ea
     put-words d ea ev (suc zero) = put-second ∙ ev
-    put-words d ea ev (suc (suc i)) = view-past R (putSlot m q a v) (R + q) (suc (suc i)) (omega arith) ∙ sym (no-more d i)
+    put-words d ea ev (suc (suc i)) = slot-past R (putSlot m q a v) (R + q) (suc (suc i)) (omega arith) ∙ sym (no-more d i)
 
     put-here : (b d : Branch) → a ≡ cellW (inSlot 0) (cellOf d) → v ≡ cellW (inSlot 1) (cellOf d) → ((w : Word) → view R m (R + q) w ≡ cellW w (cellOf b)) → (w : Word) → view R (putSlot m q a v) (R + q) w ≡ cellW w (cellOf d)
     unfolding view

@@ -13,8 +13,8 @@ use Rattle.laws.proofs.Tests.{both, and-both, le-or-lt}
 use Rattle.laws.specs.Pick.{pick}
 use Rattle.pool.specs.Memory.{Mem, recordWords, slotWords}
 use Rattle.demands.specs.Placed.{Branch, null, leaf, sub, Forest, nil, cons, len, Cell, empty, data1, child, node, cellOf, headWords, cellWords, Word, bit, inNode, inSlot, cellW, at, inB, inF, view}
-use Rattle.demands.proofs.Adding.{node-past, slot-past}
 use Rattle.demands.proofs.Plugs.{at-other}
+use Rattle.demands.proofs.Walking.{node-past, slot-past}
 
 -- a test that holds for every number below n
 abbrev allBelow : (ℕ → Bool) → ℕ → Bool

@@ -41,8 +41,8 @@ use Rattle.demands.proofs.Loads.{given, size-load, load-answers}
 use Rattle.demands.proofs.Parting.{keys-below}
 use Rattle.demands.proofs.Plugs.{End}
 use Rattle.demands.proofs.Settling.{insert-answers}
-use Rattle.demands.proofs.Walking.{view-node, view-slot, records-length}
-use Rattle.demands.proofs.Ways.{Way, path-plug, below-plug}
+use Rattle.demands.proofs.Walking.{view-node, view-slot}
+use Rattle.demands.proofs.Ways.{Way, way-end}
 
 -- the number that an insert comes to
 abbrev numberT : Settled → ℕ
@@ -122,9 +122,7 @@ module _ (h : Handle) (m : Mem) (t : Head) (g : Forest) (d : Good h m t g) (k p 
   z = on h m t g d k key
 
   end-is : endB (sub t g) k ≡ z .end
-  end-is =
-      ap (λ (i : ℕ). belowB (sub t g) i k) (ap length (ap (pathB k) (z .eq) ∙ path-plug k (z .first ∷ z .rest) (z .end) (z .follows) (z .isEnd)) ∙ records-length (z .first ∷ z .rest))
-      ∙ ap (λ (x : Branch). belowB x (length (z .first ∷ z .rest)) k) (z .eq) ∙ below-plug k (z .first ∷ z .rest) (z .end) (z .follows)
+  end-is = way-end (h .records) (h .slots) m k t g z
 
   not-node : (b : Branch) → End b → (s : Head) (f : Forest) → b ≡ sub s f → ⊥
   not-node null e s f q = subst End q e

@@ -2,7 +2,7 @@
 -- it meets no broken rule. Assumes nothing.
 use mathlib.Core.Bool.{true, _&&_}
 use mathlib.Core.List.{List, [], _∷_, _++_}
-use mathlib.Core.Logic.{_⊎_, ⊎-elim}
+use mathlib.Core.Logic.{⊎-elim}
 use mathlib.Core.Path.{_≡_, refl, sym, subst, subst⁻¹, ap, _∙_}
 use native.Mathlib.Omega.{arith}
 use Prim.Native.Nat.{ℕ, zero, suc, zero-le, _+_, _-_, _<_, _≤_}
@@ -20,7 +20,7 @@ use Rattle.walk.specs.declared.Item.{Item}
 use Rattle.walk.specs.declared.Span.the-variants.{Whole}
 use Rattle.demands.specs.Map.{Map, EachKey, Rises, range, insert, size, keysOf, payloadsOf}
 use Rattle.demands.specs.Placed.{Head, Branch, null, leaf, sub, Forest, nil, cons, len, flatB, flatF, depthB, OkB, OkF}
-use Rattle.demands.proofs.Bands.{reads-all, size-keys}
+use Rattle.demands.proofs.Bands.{reads-all, all-least, size-keys}
 use Rattle.demands.proofs.Listings.{takenB, shows-node, whole-B, Lists, lists-shown}
 use Rattle.demands.proofs.Nodes.{nodes-few}
 use Rattle.demands.proofs.Plugs.{rises-B, all-map, all-app}
@@ -125,10 +125,6 @@ module _ (R S : ℕ) (m : Mem) (capacity k above : ℕ) (t : Head) (g : Forest) 
     fresh = λ e. a .fresh;
     least = all-least (flatF g);
   }
-    where
-      all-least : (l : Map) → EachKey (λ x. 0 ≤ x) l
-      all-least [] = tt
-      all-least (x ∷ l) = (zero-le, all-least l)
 
   pub live-items : liveItems capacity k above (t .at) m ≡ heldB Whole 0 (sub t g)
   unfolding liveItems eventsOf

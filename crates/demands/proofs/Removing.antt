@@ -23,12 +23,12 @@ use Rattle.pool.specs.Reading.{nodeAt, slotAt}
 use Rattle.pool.specs.declared.Slot.{Slot}
 use Rattle.pool.specs.declared.Record.the-variants.{Good as GoodRecord}
 use Rattle.demands.specs.Placed.{Head, Branch, null, leaf, sub, Forest, nil, cons, len, depthB, depthF, Cell, node, cellOf, Word, bit, inNode, inSlot, cellW, at, inB, inF, view, HeadOk, OkB, OkF, Words}
-use Rattle.demands.proofs.Adding.{Fine, sized-as, spots, node-past, slot-past, same-elsewhere}
+use Rattle.demands.proofs.Adding.{Fine, sized-as, spots, same-elsewhere}
 use Rattle.demands.proofs.Changing.{no-node}
 use Rattle.demands.proofs.Holding.{HoldsF, root-reads, run-holds, first-reads, branch-holds, rest-holds}
 use Rattle.demands.proofs.Plugs.{at-same, at-other, at-none, none-B}
 use Rattle.demands.proofs.Reading.{Holds, bit-small}
-use Rattle.demands.proofs.Walking.{nodeOf, slotTo, view-node, view-slot, records-are, node-reads, slot-reads}
+use Rattle.demands.proofs.Walking.{nodeOf, slotTo, view-node, view-slot, node-past, slot-past, records-are, node-reads, slot-reads}
 
 pub record Removed (R S : ℕ) (m o : Mem) (δ : ℕ → (Cell → ℕ) → ℕ) : Type 0 where
   pub fine : Fine R S o

@@ -48,7 +48,7 @@ use Rattle.demands.proofs.Reading.{Holds}
 use Rattle.demands.proofs.Removing.{release-removed}
 use Rattle.demands.proofs.Standing.{Site, Taker, Above, stands-leaves, tidies-leaves, good-more}
 use Rattle.demands.proofs.Walking.{Kept, holds-all, placeOf, recordsOn, records-length, endTo, end-slot}
-use Rattle.demands.proofs.Ways.{path-plug, below-plug}
+use Rattle.demands.proofs.Ways.{path-plug, way-path, way-end}
 
 -- a tidying or none, once the slot has its taker
 module _ (h : Handle) (m : Mem) (t : Head) (g : Forest) (k p : ℕ) (f : Frame) (c : List Frame) (b : Branch) (s : Site h m t g k f c b) where
@@ -335,11 +335,7 @@ pub insert-answers : InsertAnswers ours
 unfolding insertOf
 insert-answers h m t g d k p key z fits =
     let o = on h m t g d k key in
-    let at-end : belowB (sub t g) (length (pathB k (sub t g))) k ≡ o .end =
-    ap (λ (i : ℕ). belowB (sub t g) i k) (ap length (ap (pathB k) (o .eq) ∙ path-plug k (o .first ∷ o .rest) (o .end) (o .follows) (o .isEnd)) ∙ records-length (o .first ∷ o .rest))
-    ∙ ap (λ (x : Branch). belowB x (length (o .first ∷ o .rest)) k) (o .eq) ∙ below-plug k (o .first ∷ o .rest) (o .end) (o .follows) in
-    let path : pathB k (sub t g) ≡ recordsOn (o .first ∷ o .rest) = ap (pathB k) (o .eq) ∙ path-plug k (o .first ∷ o .rest) (o .end) (o .follows) (o .isEnd) in
     rw (and-true (d .fits) fits, lt-ltb k keyBound key, walk-is h m t g d k key)
-    (subst⁻¹ (λ (x : Branch). InsertLeaves h m g k p (insertEndOf h k p m z (pathB k (sub t g)) (endTo (placeOf (o .first) (o .rest)) (o .end) (o .isEnd))) (insertEnd h (sub t g) (m .used) k p x)) at-end
-    (subst⁻¹ (λ (x : List ℕ). InsertLeaves h m g k p (insertEndOf h k p m z x (endTo (placeOf (o .first) (o .rest)) (o .end) (o .isEnd))) (insertEnd h (sub t g) (m .used) k p (o .end))) path
+    (subst⁻¹ (λ (x : Branch). InsertLeaves h m g k p (insertEndOf h k p m z (pathB k (sub t g)) (endTo (placeOf (o .first) (o .rest)) (o .end) (o .isEnd))) (insertEnd h (sub t g) (m .used) k p x)) (way-end (h .records) (h .slots) m k t g o)
+    (subst⁻¹ (λ (x : List ℕ). InsertLeaves h m g k p (insertEndOf h k p m z x (endTo (placeOf (o .first) (o .rest)) (o .end) (o .isEnd))) (insertEnd h (sub t g) (m .used) k p (o .end))) (way-path (h .records) (h .slots) m k t g o)
     (end-leaves h m t g d k p key z (o .end) (o .isEnd) (o .first) (o .rest) (o .eq) (o .follows) (o .kept) (member-is h m t g d k key))))

@@ -57,6 +57,14 @@ view-slot R m q i g =
     let e : R + q - R ≡ q = omega arith in
     rw (le-ltb (R + q) R h, e, lt-ltb i 2 g)
 
+pub node-past : (R : ℕ) (m : Mem) (x i : ℕ) → 8 ≤ i → view R m x (inNode i) ≡ 0
+unfolding view
+node-past R m x i h = rw (le-ltb i 8 h)
+
+pub slot-past : (R : ℕ) (m : Mem) (x i : ℕ) → 2 ≤ i → view R m x (inSlot i) ≡ 0
+unfolding view
+slot-past R m x i h = rw (le-ltb i 2 h)
+
 pub view-bit : (R : ℕ) (m : Mem) (x : ℕ) → view R m x bit ≡ 1 → usedAt (m .used) x ≡ true
 unfolding view usedAt
 view-bit R m x e = eq-eqb _ _ e

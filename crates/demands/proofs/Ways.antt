@@ -1,6 +1,6 @@
 -- A key's path and the frames of it: what the frames plug together is the tree, the path is their records, and another branch at the
 -- end of them is the graft. Every good tree is the frames of a key and what stands at their end. Assumes nothing.
-use mathlib.Core.List.{List, [], _∷_, _++_, map}
+use mathlib.Core.List.{List, [], _∷_, _++_, map, append-nil}
 use mathlib.Core.Path.{_≡_, refl, sym, subst, ap, _∙_}
 use native.Mathlib.Nat.{add-zero, zero-add}
 use native.Mathlib.Omega.{arith}
@@ -8,11 +8,12 @@ use Prim.Native.Nat.{ℕ, suc, _+_}
 use lib.ListN.{length}
 use Rattle.pool.specs.Memory.{Mem}
 use Rattle.walk.specs.Walks.{longestPath}
-use Rattle.demands.specs.Paths.{pathB, pathF, belowB, belowF, graftB, graftF}
+use Rattle.demands.specs.Demand2.{rootOf}
+use Rattle.demands.specs.Paths.{pathB, pathF, belowB, belowF, endB, graftB, graftF}
 use Rattle.demands.specs.Placed.{Head, Branch, null, leaf, sub, Forest, nil, cons, len, app, Frame, plug, Follows, slotIn}
 use Rattle.demands.proofs.Changing.{Count, up}
 use Rattle.demands.proofs.Plugs.{len-app, End, find}
-use Rattle.demands.proofs.Walking.{Kept, recordsOn}
+use Rattle.demands.proofs.Walking.{Kept, recordsOn, records-length}
 
 path-at : (k : ℕ) (f : Forest) (b : Branch) (g : Forest) → pathF k (app f (cons b g)) (len f) ≡ pathB k b
 unfolding pathF
@@ -33,11 +34,7 @@ path-along k (f ∷ c) b w =
     rw (len-app (f .left) (cons (plug c b) (f .right)), w .0, path-at k (f .left) (plug c b) (f .right)) (ap (λ (l : List ℕ). f .head .at ∷ l) (path-along k c b (w .1)))
 
 pub path-plug : (k : ℕ) (c : List Frame) (b : Branch) → Follows k c → End b → pathB k (plug c b) ≡ recordsOn c
-path-plug k c b w e = path-along k c b w ∙ ap (λ (l : List ℕ). recordsOn c ++ l) (path-end k b e) ∙ append-none (recordsOn c)
-  where
-    append-none : (l : List ℕ) → l ++ [] ≡ l
-    append-none [] = refl
-    append-none (x ∷ l) = ap (λ (r : List ℕ). x ∷ r) (append-none l)
+path-plug k c b w e = path-along k c b w ∙ ap (λ (l : List ℕ). recordsOn c ++ l) (path-end k b e) ∙ append-nil (recordsOn c)
 
 below-at : (i k : ℕ) (f : Forest) (b : Branch) (g : Forest) → belowF (app f (cons b g)) (len f) i k ≡ belowB b i k
 unfolding belowF
@@ -101,15 +98,19 @@ pub record Way (R S : ℕ) (m : Mem) (k : ℕ) (h : Head) (g : Forest) : Type 0 
   pub follows : Follows k (first ∷ rest)
   pub kept : Kept R S m (plug (first ∷ rest) end)
 
--- the record of a node
-abbrev pub rootOf : Branch → ℕ
-rootOf null = 0
-rootOf (leaf k p) = 0
-rootOf (sub h g) = h .at
-
 pub way : (R S : ℕ) (m : Mem) (k : ℕ) (h : Head) (g : Forest) → Kept R S m (sub h g) → Way R S m k h g
 way R S m k h g d = let z = find R S k longestPath (sub h g) (d .okay) (d .deep) in go (z .ctx) (z .end) (z .eq) (z .isEnd) (z .follows)
   where
     go : (c : List Frame) (b : Branch) → sub h g ≡ plug c b → End b → Follows k c → Way R S m k h g
     go [] b e i w = absurd (subst End (sym e) i)
     go (f ∷ c) b e i w = record { first = f; rest = c; end = b; eq = e; root = ap rootOf e; isEnd = i; follows = w; kept = subst (Kept R S m) e d }
+
+-- where it ends
+module _ (R S : ℕ) (m : Mem) (k : ℕ) (h : Head) (g : Forest) (z : Way R S m k h g) where
+  pub way-path : pathB k (sub h g) ≡ recordsOn (z .first ∷ z .rest)
+  way-path = ap (pathB k) (z .eq) ∙ path-plug k (z .first ∷ z .rest) (z .end) (z .follows) (z .isEnd)
+
+  pub way-end : endB (sub h g) k ≡ z .end
+  way-end =
+      ap (λ (i : ℕ). belowB (sub h g) i k) (ap length way-path ∙ records-length (z .first ∷ z .rest))
+      ∙ ap (λ (x : Branch). belowB x (length (z .first ∷ z .rest)) k) (z .eq) ∙ below-plug k (z .first ∷ z .rest) (z .end) (z .follows)

@@ -86,7 +86,7 @@ whole roomless = refuses noRoom
 abbrev pub unlessFull : Handle → Settled → Settled
 unlessFull h x = pick (ltb (h .count) (h .capacity)) x (refuses full)
 
--- by what the path ends at
+-- by what the path ends at. It ends at no node: the last case has no use, and any refusal would do
 abbrev pub insertEnd : Handle → Branch → List ℕ → ℕ → ℕ → Branch → Settled
 insertEnd h t u k p null = unlessFull h (settle h t k p false (leaf k p) u)
 insertEnd h t u k p (leaf j q) =

@@ -29,8 +29,9 @@ pub record Refilled (pause : Pause) (s t : Stage) (over : Bool) (before after : 
   pub none : t .last ≡ true → t .held ≡ s .held
   pub ended : s .last ≡ true → (t .held ≡ s .held) × (t .last ≡ true)
 
--- bytes were read and others printed: with those to come, the session of all that is read is what was printed, and then what is left
--- to print from offset o and state t on, with the bytes held
+-- a session begun at the start stands here: for some bytes got and some printed, and any to come, the session of got and to come is
+-- what was printed, and then what is left to print from offset o and state t on, with the bytes held. Which bytes moved is not said:
+-- the kit's read and write do not say it
 pub record SoFar (last : Bool) (o : ℕ) (held : List ℕ) (t : State) : Type 0 where
   pub got : List ℕ
   pub printed : List ℕ
