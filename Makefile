@@ -1,6 +1,6 @@
 # Tests, run example and benchmark over the proved crates. Everything built goes to target/.
 #
-#   make test        the whole gate: proofs, C test, second program (.ci/run)
+#   make test        the whole gate: proofs, C tests, second program, whole sessions, wrong edits (.ci/run)
 #   make run         document 01's example session, written as text, through the session program; held to what document 01 prints
 #   make session     the session program, target/bin/session
 #   make answers     crates/session/stdin from tests/answers.session, and crates/session/stdout from the second program
@@ -18,7 +18,8 @@
 #   make worst       look for key lists on which model choice is slow, for a minute
 #   make bench       the time each function of the C edge takes, load and lookup beside a BTreeMap, then bench-store
 #   make bench-store the time each call of the desk library takes, beside a BTreeMap and a sorted array, and docs/speed.svg from what it measured
-#   make more-edits  the wrong edits under tests/edits, which the gate leaves out; every one has to be refused
+#   make edits       the wrong edits of all crates, or of CRATES=..; every one has to be refused, each over the modules proved before
+#   make statements  the tables of edits in docs/STATEMENTS.md, from the edits' own lines
 #   make clean       remove target/
 
 CC = gcc
@@ -44,7 +45,7 @@ need_rt = $(call need,rt,install the Rattle kit and put its rt on the PATH)
 
 need_python = $(call need,python3,install Python 3)
 
-.PHONY: test run session session-example answers show edge-test second second-program second-desk second-session second-sessions sessions-program soak memcheck desk-test desk-example picture worst bench bench-store clean more-edits
+.PHONY: test run session session-example answers show edge-test second second-program second-desk second-session second-sessions sessions-program soak memcheck desk-test desk-example picture worst bench bench-store clean edits statements
 
 test:
 	@test -x .ci/run || { echo ".ci/run is missing: take it from the repository again" >&2; exit 1; }
@@ -179,9 +180,15 @@ $(DESK): $(PROVED)
 	$(need_rt)
 	@rt staticlib desk >&2
 
-more-edits:
+edits:
 	$(need_rt)
-	@tools/more-edits
+	$(need_python)
+	@rt check $(CRATES) >&2
+	@tools/edits $(CRATES)
+
+statements:
+	$(need_python)
+	@tools/edits --tables
 
 clean:
 	rm -rf target
