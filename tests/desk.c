@@ -65,6 +65,8 @@ struct store {
 
 static const uint64_t p1[] = {10, 20, 30, 40};
 static const uint64_t p4[] = {0, 100, 101, 102, 10000, 20000};
+/* P4 with 1 for 0: the same shape, and every key a sounding's that has a number */
+static const uint64_t six[] = {1, 100, 101, 102, 10000, 20000};
 static const uint64_t payloads[] = {1, 2, 3, 4, 5, 6};
 
 /* all words of the pools and the handle the same */
@@ -92,26 +94,26 @@ static int no_handle(struct soorqabiye_handle h) {
     return h.root == 0 && h.count == 0 && h.capacity == 0 && h.records == 0 && h.slots == 0;
 }
 
-/* the words of P4 that docs/MEMORY.md prints; its map is for other sizes */
-static void try_p4(void) {
+/* a load of six keys like P4's, the lowest being `low` */
+static void try_six_keys(const uint64_t *keys, uint64_t low) {
     static struct store s;
     fill(&s);
-    struct soorqabiye_loaded l = load(&s, p4, 6);
-    check("P4 loaded", l.number == SOORQABIYE_DONE && l.place == 0 && handle_is(l.handle, 0, 6));
+    struct soorqabiye_loaded l = load(&s, keys, 6);
+    check("six keys loaded", l.number == SOORQABIYE_DONE && l.place == 0 && handle_is(l.handle, 0, 6));
     const uint64_t records[4][8] = {{101, 2, 12, 0, 6, 6, 0, 0},
-                                    {0, 101, 4, 12, 2, 2, 0, 0},
+                                    {low, 101 - low, 4, 12, 2, 2, 0, 0},
                                     {10000, 10001, 4, 16, 2, 2, 0, 0},
                                     {0, 0, 0, 0, 0, 0, 0, 0}};
-    check("P4, records", memcmp(s.nodes, records, sizeof records) == 0);
+    check("six keys, records", memcmp(s.nodes, records, sizeof records) == 0);
     uint64_t slots[2 * 24] = {NODE + 1, 0, DATA + 101, 3};
     slots[2 * 6] = DATA + 102, slots[2 * 6 + 1] = 4;
     slots[2 * 11] = NODE + 2;
-    slots[2 * 13] = DATA, slots[2 * 13 + 1] = 1;
+    slots[2 * 13] = DATA + low, slots[2 * 13 + 1] = 1;
     slots[2 * 14] = DATA + 100, slots[2 * 14 + 1] = 2;
     slots[2 * 17] = DATA + 10000, slots[2 * 17 + 1] = 5;
     slots[2 * 18] = DATA + 20000, slots[2 * 18 + 1] = 6;
-    check("P4, slots", memcmp(s.slots, slots, sizeof slots) == 0);
-    check("P4, map", s.used[0] == 7 && s.used[1] == 0xfffff && s.used[2] == 0);
+    check("six keys, slots", memcmp(s.slots, slots, sizeof slots) == 0);
+    check("six keys, map", s.used[0] == 7 && s.used[1] == 0xfffff && s.used[2] == 0);
 }
 
 static void refused_load(const char *what, uint64_t number, uint64_t place, size_t capacity,
@@ -137,12 +139,13 @@ static void try_refused_loads(void) {
     refused_load("P11", SOORQABIYE_NOT_RISING, 1, 9, twice, 2, 2, RECORDS, SLOTS);
     refused_load("4 at the earlier place", SOORQABIYE_NOT_RISING, 1, 9, both, 3, 3, RECORDS, SLOTS);
     refused_load("2", SOORQABIYE_RANGE, 0, 9, high, 2, 2, RECORDS, SLOTS);
-    refused_load("no room", SOORQABIYE_NO_ROOM, 0, 9, p4, 6, 6, 2, SLOTS);
+    refused_load("no room", SOORQABIYE_NO_ROOM, 0, 9, six, 6, 6, 2, SLOTS);
     refused_load("nothing into 63 slots", SOORQABIYE_NO_ROOM, 0, 9, p1, 0, 0, 1, 63);
 }
 
 static void try_load(void) {
-    try_p4();
+    try_six_keys(p4, 0);
+    try_six_keys(six, 1);   /* the words that docs/MEMORY.md prints; its map is for other sizes */
     try_refused_loads();
 }
 #else
@@ -160,7 +163,7 @@ static int looks(const struct store *s, uint64_t key, uint64_t number, uint64_t 
 
 static void try_lookup(void) {
     static struct store s, before;
-    load(&s, p4, 6);
+    load(&s, six, 6);
     before = s;
     check("lookup in the root", looks(&s, 102, SOORQABIYE_DONE, 4, 1));
     check("lookup in a child", looks(&s, 100, SOORQABIYE_DONE, 2, 2));
@@ -182,7 +185,7 @@ static void try_lookup(void) {}
 #if defined(DESK_all) || (defined(DESK_load) && defined(DESK_replace))
 static void try_replace(void) {
     static struct store s, want;
-    load(&s, p4, 6);
+    load(&s, six, 6);
     want = s;
     want.slots[2 * 14 + 1] = JUNK;
     struct soorqabiye_changed c = soorqabiye_replace(s.handle, 100, JUNK, ALL_POOLS(&s));
@@ -199,7 +202,7 @@ static void try_replace(void) {}
 #if defined(DESK_all) || (defined(DESK_load) && defined(DESK_delete))
 static void try_delete(void) {
     static struct store s, want;
-    load(&s, p4, 6);
+    load(&s, six, 6);
     want = s;
     want.slots[2 * 14] = want.slots[2 * 14 + 1] = 0;
     struct soorqabiye_changed c = soorqabiye_delete(s.handle, 100, ALL_POOLS(&s));
@@ -227,15 +230,15 @@ static void want_band(const char *what, const struct store *s, uint64_t u, uint6
     struct soorqabiye_listed l =
         soorqabiye_band(s->handle, u, v, ALL_POOLS(s), keys, room, values, room);
     check(what, l.number == number && l.count == count && l.more == more);
-    check(what, count == 0 || (keys[0] == p4[first] && values[0] == payloads[first]));
+    check(what, count == 0 || (keys[0] == six[first] && values[0] == payloads[first]));
     check(what, keys[count] == JUNK && values[count] == JUNK);
 }
 
 static void try_band(void) {
     static struct store s;
-    load(&s, p4, 0);
+    load(&s, six, 0);
     want_band("P12", &s, 0, KEY_END - 1, 7, SOORQABIYE_DONE, 0, 0, 0);
-    load(&s, p4, 6);
+    load(&s, six, 6);
     want_band("all", &s, 0, KEY_END - 1, 7, SOORQABIYE_DONE, 6, 0, 0);
     want_band("just enough", &s, 0, KEY_END - 1, 6, SOORQABIYE_DONE, 6, 0, 0);
     want_band("one less", &s, 0, KEY_END - 1, 5, SOORQABIYE_DONE, 5, 1, 0);
@@ -299,7 +302,7 @@ static void try_plain_inserts(void) {
 
 static void try_refused_inserts(void) {
     static struct store s, before;
-    load(&s, p4, 6);
+    load(&s, six, 6);
     before = s;
     check("held", refused(put(&s, 100, 9), SOORQABIYE_HELD));
     check("key 2^48", refused(put(&s, KEY_END, 9), SOORQABIYE_RANGE));
@@ -320,13 +323,13 @@ static void try_refused_inserts(void) {
     check("scratch unequal", refused(i, SOORQABIYE_SIZE));
 }
 
-/* P4 with its root due, insert 1: the pair takes record 3 and slots 20 to 23, the new root record 4
+/* the six keys with their root due, insert 2: the pair takes record 3 and slots 20 to 23, the new root record 4
    at slot 24, and everything before is let go */
 static void try_tidying(void) {
     static struct store s;
-    load(&s, p4, 6);
+    load(&s, six, 6);
     s.nodes[4] = 63, s.nodes[6] = 100;
-    check("tidied", inserted(put(&s, 1, 9), 1, SOORQABIYE_TIDIED) && handle_is(s.handle, 4, 7));
+    check("tidied", inserted(put(&s, 2, 9), 1, SOORQABIYE_TIDIED) && handle_is(s.handle, 4, 7));
     const uint64_t *root = s.nodes + 8 * 4;
     check("new root", root[3] == 24 && root[4] == 7 && root[5] == 7 && root[6] == 0);
     int zero = 1;
@@ -339,7 +342,7 @@ static void try_tidying(void) {
 /* the root is due, but all slots are marked */
 static void try_put_off(void) {
     static struct store s;
-    load(&s, p4, 6);
+    load(&s, six, 6);
     s.nodes[4] = 63, s.nodes[6] = 100;
     for (size_t word = 1; word < sizeof s.used / sizeof *s.used; word++) s.used[word] = UINT64_MAX;
     check("put off", inserted(put(&s, 103, 9), 0, SOORQABIYE_PUT_OFF) && handle_is(s.handle, 0, 7));

@@ -44,7 +44,7 @@ static void follow(uint64_t record, uint64_t key) {
 }
 
 int main(void) {
-    const uint64_t keys[] = {0, 100, 101, 102, 10000, 20000};
+    const uint64_t keys[] = {1, 100, 101, 102, 10000, 20000};
     const uint64_t payloads[LENGTH(keys)] = {0};
     struct soorqabiye_loaded t = soorqabiye_load(LENGTH(keys), keys, LENGTH(keys), payloads, LENGTH(keys),
                                                  nodes, LENGTH(nodes), slots, LENGTH(slots), used, LENGTH(used));

@@ -11,6 +11,7 @@ use Rattle.laws.specs.Pick.{pick}
 use Rattle.marks.specs.Used.{usedAt, markAt, markRun, clearAt, clearRun, firstUnused, lowestRun}
 use Rattle.marks.specs.declared.Run.the-variants.{At, Nowhere as NoRun}
 use Rattle.marks.specs.declared.Run.{Run}
+use Rattle.model.specs.Slots.{mostSlots}
 use Rattle.build.specs.Room.{placeAll}
 use Rattle.build.specs.declared.room.Found.the-variants.{Here, Nowhere}
 use Rattle.build.specs.declared.room.Found.{Found}
@@ -32,7 +33,7 @@ pub record Sought (records count : ℕ) (used : List ℕ) (r s : ℕ) : Type 0 w
 pub record Asked (records count n : ℕ) (list used : List ℕ) : Type 0 where
   pub map : Mapped records count used
   pub within : n ≤ length list
-  pub sizes : (i : ℕ) → i < n → (1 ≤ getD list i 0) × (getD list i 0 ≤ 4096)
+  pub sizes : (i : ℕ) → i < n → (1 ≤ getD list i 0) × (getD list i 0 ≤ mostSlots)
 
 -- where a size goes: the lowest unused record and the lowest run, if there are both
 unfoldable pub spotOn : ℕ → ℕ → Run → Found

@@ -167,7 +167,8 @@ fn build_group(
     g
 }
 
-// The tree over the keys, of at most `fuel` levels.
+// The tree over the keys, of at most `fuel` levels. Where its levels end it answers that there is no room; with the 24 levels of a path,
+// which every caller allows, they never do: H(n) is at most 9 (proofs/Heights, `build-enough`).
 pub fn build_node(
     keys: &[u64],
     payloads: &[u64],

@@ -11,7 +11,7 @@ ghost use Rattle.pool.specs.Memory.{mem, slotsIn};
 ghost use Rattle.rebuild.specs.Judging.{Pooled};
 ghost use Rattle.rebuild.specs.Rebuilding.{Scratch, scratch};
 use build::Built;
-use model::Model;
+use laws::Key;
 use pool::Node;
 use pool::Record;
 use store::Handle;
@@ -429,7 +429,7 @@ pub fn insert(
     if !scratch_fits(h.capacity, keys, payloads, places) {
         return refuse(h, Inserted::WrongSizes);
     }
-    if Model::BOUND <= key {
+    if Key::BOUND <= key {
         return refuse(h, Inserted::OutOfRange);
     }
     let t = walk::trace(nodes, slots, used, h.root, key);

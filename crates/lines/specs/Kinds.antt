@@ -21,6 +21,10 @@ bodyLength Lookup = keyBytes
 bodyLength Band = keyBytes + keyBytes
 bodyLength Replace = keyBytes + payloadBytes
 
+-- no body is longer
+abbrev pub longestBody : ℕ
+longestBody = keyBytes + payloadBytes
+
 abbrev pub known : Operation → Kind
 known o = Known (bodyLength o) o
 

@@ -40,6 +40,10 @@ line head ns = head ∷ numbers ns
 abbrev pub longestNumber : ℕ
 longestNumber = 21
 
+-- no line is longer: a first byte, three numbers and the line's end
+abbrev pub longestLine : ℕ
+longestLine = 65
+
 -- a lent list and the place from which it is written on
 pub record Text : Type 0 where
   pub bytes : List ℕ

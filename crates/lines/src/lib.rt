@@ -5,7 +5,8 @@ ghost use Prim.Native.Nat.{_+_, _^_, _<_, _≤_};
 ghost use lib.ListN.{length, drop};
 ghost use Rattle.laws.specs.Bytes.{littleEndian};
 ghost use Rattle.lines.specs.Kinds.{kindOf};
-ghost use Rattle.lines.specs.Lines.{digit, space, newline, decimal, spaced, line, longestNumber, text, write};
+ghost use Rattle.lines.specs.Lines.{digit, space, newline, decimal, spaced, line, longestLine, longestNumber, text, write};
+use laws::Key;
 
 pub enum Operation {
     Insert,
@@ -22,23 +23,18 @@ pub enum Kind {
 }
 
 impl Kind {
-    pub const KEY_BYTES: usize = 6;
-
     pub const PAYLOAD_BYTES: usize = 8;
-
-    // The longest body.
-    pub const LONGEST: usize = 14;
 }
 
 pub fn kind_of(byte: u8) -> Kind
     ensures { λ r. ⌜ r ≡ kindOf byte ⌝ }
 {
     match byte {
-        1 => Kind::Known(Kind::KEY_BYTES + Kind::PAYLOAD_BYTES, Operation::Insert),
-        2 => Kind::Known(Kind::KEY_BYTES, Operation::Delete),
-        3 => Kind::Known(Kind::KEY_BYTES, Operation::Lookup),
-        4 => Kind::Known(Kind::KEY_BYTES + Kind::KEY_BYTES, Operation::Band),
-        5 => Kind::Known(Kind::KEY_BYTES + Kind::PAYLOAD_BYTES, Operation::Replace),
+        1 => Kind::Known(Key::BYTES + Kind::PAYLOAD_BYTES, Operation::Insert),
+        2 => Kind::Known(Key::BYTES, Operation::Delete),
+        3 => Kind::Known(Key::BYTES, Operation::Lookup),
+        4 => Kind::Known(Key::BYTES + Key::BYTES, Operation::Band),
+        5 => Kind::Known(Key::BYTES + Kind::PAYLOAD_BYTES, Operation::Replace),
         0 | 6..=255 => Kind::Unknown,
     }
 }
@@ -129,9 +125,9 @@ fn put_spaced(n: u64, out: &mut [u8], at: usize) -> usize
 
 // A line of one number after its first byte.
 pub fn line_of_one(head: u8, a: u64, out: &mut [u8], at: usize) -> usize
-    requires { ⌜ at + 64 ≤ length (now out) ⌝ }
+    requires { ⌜ at + longestLine ≤ length (now out) ⌝ }
     ensures { λ r. ⌜ text (now (out .exit)) r ≡ write (text (now (out .entry)) at) (line head (a ∷ [])) ⌝ }
-    ensures { λ r. ⌜ (r ≤ at + 64) × (length (now (out .exit)) ≡ length (now (out .entry))) ⌝ }
+    ensures { λ r. ⌜ (r ≤ at + longestLine) × (length (now (out .exit)) ≡ length (now (out .entry))) ⌝ }
 {
     let first = put(head, out, at);
     let end = put_spaced(a, out, first);
@@ -139,9 +135,9 @@ pub fn line_of_one(head: u8, a: u64, out: &mut [u8], at: usize) -> usize
 }
 
 pub fn line_of_two(head: u8, a: u64, b: u64, out: &mut [u8], at: usize) -> usize
-    requires { ⌜ at + 64 ≤ length (now out) ⌝ }
+    requires { ⌜ at + longestLine ≤ length (now out) ⌝ }
     ensures { λ r. ⌜ text (now (out .exit)) r ≡ write (text (now (out .entry)) at) (line head (a ∷ b ∷ [])) ⌝ }
-    ensures { λ r. ⌜ (r ≤ at + 64) × (length (now (out .exit)) ≡ length (now (out .entry))) ⌝ }
+    ensures { λ r. ⌜ (r ≤ at + longestLine) × (length (now (out .exit)) ≡ length (now (out .entry))) ⌝ }
 {
     let first = put(head, out, at);
     let second = put_spaced(a, out, first);
@@ -150,9 +146,9 @@ pub fn line_of_two(head: u8, a: u64, b: u64, out: &mut [u8], at: usize) -> usize
 }
 
 pub fn line_of_three(head: u8, a: u64, b: u64, c: u64, out: &mut [u8], at: usize) -> usize
-    requires { ⌜ at + 65 ≤ length (now out) ⌝ }
+    requires { ⌜ at + longestLine ≤ length (now out) ⌝ }
     ensures { λ r. ⌜ text (now (out .exit)) r ≡ write (text (now (out .entry)) at) (line head (a ∷ b ∷ c ∷ [])) ⌝ }
-    ensures { λ r. ⌜ (r ≤ at + 65) × (length (now (out .exit)) ≡ length (now (out .entry))) ⌝ }
+    ensures { λ r. ⌜ (r ≤ at + longestLine) × (length (now (out .exit)) ≡ length (now (out .entry))) ⌝ }
 {
     let first = put(head, out, at);
     let second = put_spaced(a, out, first);

@@ -17,6 +17,7 @@ ghost use Rattle.walk.specs.Walks.{longestPath};
 use pool::Node;
 use walk::Item;
 use walk::Next;
+use walk::Path;
 use walk::Rules;
 use walk::Span;
 
@@ -188,8 +189,8 @@ pub fn count(
     ensures { λ a. ⌜ a ≡ countFrom 0 (listing u v room (items (mem (now (nodes .entry)) (now (slots .entry)) (now (used .entry))) rules
         (eventsOf span (mem (now (nodes .entry)) (now (slots .entry)) (now (used .entry))) above r))) ⌝ }
 {
-    let mut records = [0usize; 24];
-    let mut places = [0usize; 24];
+    let mut records = [0usize; Path::LONGEST];
+    let mut places = [0usize; Path::LONGEST];
     let mut next = first_listed(
         nodes,
         slots,
@@ -266,8 +267,8 @@ pub fn write(
         (listing u v count (items (mem (now (nodes .entry)) (now (slots .entry)) (now (used .entry))) rules
         (eventsOf span (mem (now (nodes .entry)) (now (slots .entry)) (now (used .entry))) above r)) .places)) ⌝ }
 {
-    let mut records = [0usize; 24];
-    let mut places = [0usize; 24];
+    let mut records = [0usize; Path::LONGEST];
+    let mut places = [0usize; Path::LONGEST];
     let mut next = first_listed(
         nodes,
         slots,

@@ -12,6 +12,7 @@ use crate::Chosen;
 use crate::Model;
 use crate::slot_of;
 use crate::slots_for;
+use laws::Key;
 
 fn wide(b: u8) -> u64
     ensures { λ r. ⌜ (r ≡ b) × (r < 256) ⌝ }
@@ -35,7 +36,7 @@ fn key_at(bytes: &[u8], i: usize) -> u64
     requires { ⌜ i < length (now bytes) / keyBytes ⌝ }
     ensures { λ r. ⌜ (r ≡ getD (keysIn (now (bytes .entry))) i 0) × (r < keyBound) ⌝ }
 {
-    let p = i * Model::KEY_BYTES;
+    let p = i * Key::BYTES;
     let low = three(bytes, p);
     let high = three(bytes, p + 3);
     low + 16777216 * high
@@ -45,7 +46,7 @@ fn key_at(bytes: &[u8], i: usize) -> u64
 fn first_fall(bytes: &[u8]) -> usize
     ensures { λ r. ⌜ r ≡ firstFall (keysIn (now (bytes .entry))) ⌝ }
 {
-    let n = bytes.len() / Model::KEY_BYTES;
+    let n = bytes.len() / Key::BYTES;
     if n < 1 {
         return 0;
     }
@@ -67,7 +68,7 @@ fn is_spread(bytes: &[u8], m: Model, t: u16) -> bool
     requires { ⌜ InRange m ⌝ }
     ensures { λ r. ⌜ r ≡ spread m t (keysIn (now (bytes .entry))) ⌝ }
 {
-    let n = bytes.len() / Model::KEY_BYTES;
+    let n = bytes.len() / Key::BYTES;
     let mut counts = [0u16; Model::MOST_SLOTS as usize];
     let mut i = 0;
     while i < n {
@@ -88,7 +89,7 @@ fn model_at(bytes: &[u8], t: usize) -> Model
     requires { ⌜ t + t < length (now bytes) / keyBytes ⌝ }
     ensures { λ r. ⌜ r ≡ modelAt (keysIn (now (bytes .entry))) t ⌝ }
 {
-    let n = bytes.len() / Model::KEY_BYTES;
+    let n = bytes.len() / Key::BYTES;
     let lo = key_at(bytes, t);
     let w = key_at(bytes, n - 1 - t) - lo + 1;
     Model::new(lo, w, slots_for(n))
@@ -100,10 +101,10 @@ fn model_of(bytes: &[u8]) -> Choice
     requires { ⌜ length (now bytes) / keyBytes ≤ mostKeys ⌝ }
     ensures { λ r. ⌜ r ≡ choiceOf (keysIn (now (bytes .entry))) ⌝ }
 {
-    let n = bytes.len() / Model::KEY_BYTES;
+    let n = bytes.len() / Key::BYTES;
     if n < 1 {
         return Choice {
-            model: Model::new(0, Model::BOUND, Model::EMPTY_SLOTS),
+            model: Model::new(0, Model::VALUE_BOUND, Model::EMPTY_SLOTS),
             t: 0,
         };
     }
@@ -131,10 +132,10 @@ pub fn model_choice(bytes: &[u8]) -> Chosen
     ensures { λ r. ⌜ chosen r ≡ modelChoice (now (bytes .entry)) ⌝ }
 {
     let len = bytes.len();
-    if len % Model::KEY_BYTES != 0 {
+    if len % Key::BYTES != 0 {
         return Chosen::WrongLength;
     }
-    let n = len / Model::KEY_BYTES;
+    let n = len / Key::BYTES;
     if Model::MOST_KEYS < n {
         return Chosen::WrongLength;
     }

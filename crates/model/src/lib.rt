@@ -3,8 +3,9 @@ ghost use mathlib.Core.Path.{_≡_};
 ghost use Prim.Native.Nat.{ℕ, _+_, _-_, _*_, _<_, _≤_};
 ghost use lib.ListN.{length};
 ghost use Rattle.laws.specs.Keys.{Rising};
-ghost use Rattle.model.specs.Slots.{InRange, valueBound, slotOf, slotChoice, slotted};
-ghost use Rattle.model.specs.Choice.{mostKeys, slotsFor, spread, modelAt, choiceOf};
+ghost use Rattle.model.specs.Slots.{InRange, leastSlots, mostSlots, valueBound, slotOf, slotChoice, slotted};
+ghost use Rattle.model.specs.Choice.{emptySlots, mostKeys, slotsFor, spread, modelAt, choiceOf};
+use laws::Key;
 
 pub mod bytes;
 
@@ -22,11 +23,16 @@ impl Model {
 
     pub const EMPTY_SLOTS: u64 = 64;
 
-    pub const BOUND: u64 = 281474976710656;
+    // Values of keys lie below it; the value of a key is the key itself.
+    pub const VALUE_BOUND: u64 = Key::BOUND;
 
     pub const MOST_KEYS: usize = 16384;
 
-    pub const KEY_BYTES: usize = 6;
+    // Nobody calls it: its contract says that the constants are those of the definitions.
+    pub fn limits()
+        ensures { λ _. do ⌜ ((← ⟦Model::LEAST_SLOTS⟧ .entry) ≡ leastSlots) × ((← ⟦Model::MOST_SLOTS⟧ .entry) ≡ mostSlots) × ((← ⟦Model::EMPTY_SLOTS⟧ .entry) ≡ emptySlots) ⌝ }
+        ensures { λ _. do ⌜ ((← ⟦Model::VALUE_BOUND⟧ .entry) ≡ valueBound) × ((← ⟦Model::MOST_KEYS⟧ .entry) ≡ mostKeys) ⌝ }
+    {}
 
     pub fn new(lo: u64, w: u64, l: u64) -> Self
         ensures { λ r. ⌜ r ≡ record { lo = lo; w = w; l = l } ⌝ }
@@ -60,7 +66,7 @@ pub fn slot_of(m: Model, x: u64) -> u64
 pub fn slot_choice(key: u64, m: Model) -> Slotted
     ensures { λ r. ⌜ slotted r ≡ slotChoice key m ⌝ }
 {
-    if Model::BOUND <= key {
+    if Key::BOUND <= key {
         return Slotted::KeyOutOfRange;
     }
     if m.l < Model::LEAST_SLOTS {
@@ -72,10 +78,10 @@ pub fn slot_choice(key: u64, m: Model) -> Slotted
     if m.w < 1 {
         return Slotted::ModelOutOfRange;
     }
-    if Model::BOUND < m.w {
+    if Model::VALUE_BOUND < m.w {
         return Slotted::ModelOutOfRange;
     }
-    if Model::BOUND - m.w < m.lo {
+    if Model::VALUE_BOUND - m.w < m.lo {
         return Slotted::ModelOutOfRange;
     }
     Slotted::At(slot_of(m, key))
@@ -148,7 +154,7 @@ pub fn model_of(keys: &[u64]) -> Choice
     let n = keys.len();
     if n < 1 {
         return Choice {
-            model: Model::new(0, Model::BOUND, Model::EMPTY_SLOTS),
+            model: Model::new(0, Model::VALUE_BOUND, Model::EMPTY_SLOTS),
             t: 0,
         };
     }

@@ -8,7 +8,7 @@ use native.Mathlib.Omega.{arith}
 use denote.Enum.Declared.{tagOf}
 use lib.ListN.{length, getD, take, drop, length-drop}
 use lib.Seq.{length-take-le}
-use Rattle.lines.specs.Kinds.{kindOf, bodyLength}
+use Rattle.lines.specs.Kinds.{kindOf, bodyLength, longestBody}
 use Rattle.lines.specs.Lines.{Text, text, write}
 use Rattle.lines.specs.declared.Kind.{Kind}
 use Rattle.lines.specs.declared.Kind.the-variants.{Known, Unknown}
@@ -26,15 +26,15 @@ pub unknown-told : (k : Kind) → tagOf the-type k ≡ 1 → k ≡ Unknown
 unknown-told (Known n o) e = absurd (omega arith)
 unknown-told Unknown e = refl
 
-longest : (o : Operation) → bodyLength o ≤ 14
+longest : (o : Operation) → bodyLength o ≤ longestBody
 longest Insert = omega arith
 longest Delete = omega arith
 longest Lookup = omega arith
 longest Band = omega arith
 longest Replace = omega arith
 
-pub body-at-most : (b n : ℕ) (o : Operation) → kindOf b ≡ Known n o → n ≤ 14
-body-at-most b n o e = let l : bodyLength o ≤ 14 = longest o in omega (arith, known-length b n o e, l)
+pub body-at-most : (b n : ℕ) (o : Operation) → kindOf b ≡ Known n o → n ≤ longestBody
+body-at-most b n o e = let l : bodyLength o ≤ longestBody = longest o in omega (arith, known-length b n o e, l)
 
 -- after p bytes of the input, at the state s: `at` bytes were printed, and the rest of the session is from there
 abbrev pub Printed : List ℕ → Bool → ℕ → State → ℕ → List ℕ → ℕ → State → Type 0

@@ -3,6 +3,7 @@ use mathlib.Core.Bool.{Bool, true}
 use mathlib.Core.List.{List, []}
 use mathlib.Core.Path.{_≡_}
 use Prim.Native.Nat.{ℕ, _+_, _≤_}
+use Rattle.lines.specs.Kinds.{longestBody}
 use Rattle.operations.specs.Sessions.{session}
 use Rattle.operations.specs.Stepping.{State}
 use Rattle.operations.specs.declared.blocks.Pause.{Pause}
@@ -16,6 +17,6 @@ leftAfter Ended o bs s = []
 
 -- of a block that is used up less than an operation stays, and of the last block nothing
 abbrev pub Rests : Pause → Bool → ℕ → ℕ → Type 0
-Rests Input last taken all = (all ≤ taken + 14) × (last ≡ true → taken ≡ all)
+Rests Input last taken all = (all ≤ taken + longestBody) × (last ≡ true → taken ≡ all)
 Rests Output last taken all = Unit
 Rests Ended last taken all = Unit

@@ -8,6 +8,7 @@ use lib.Dec.{leb}
 use lib.ListN.{length, replicate, take, drop}
 use Rattle.laws.specs.Pick.{pick}
 use Rattle.lines.specs.Kinds.{kindOf}
+use Rattle.lines.specs.Lines.{longestLine}
 use Rattle.lines.specs.declared.Kind.{Kind}
 use Rattle.lines.specs.declared.Kind.the-variants.{Known, Unknown}
 use Rattle.pool.specs.Memory.{Mem, mem, recordWords, slotWords}
@@ -46,6 +47,10 @@ slots = 2048
 
 abbrev pub longestList : ℕ
 longestList = 64
+
+-- no answer takes more bytes: a first line and a line for each element
+abbrev pub longestAnswer : ℕ
+longestAnswer = longestLine + longestLine * longestList
 
 abbrev zeros : ℕ → List ℕ
 zeros n = replicate n 0

@@ -7,7 +7,7 @@ ghost use lib.ListN.{length, take, drop};
 ghost use Rattle.pool.specs.Memory.{mem};
 ghost use Rattle.rebuild.specs.Rebuilding.{scratch};
 ghost use Rattle.operations.specs.Blocks.{leftAfter, Rests};
-ghost use Rattle.operations.specs.Sessions.{session};
+ghost use Rattle.operations.specs.Sessions.{longestList, session};
 ghost use Rattle.operations.specs.Stepping.{state};
 use crate::Next;
 use crate::step;
@@ -46,7 +46,7 @@ pub fn run(
     out: &mut [u8],
 ) -> Ran
     requires { ⌜ offset + length (now input) < 2 ^ 64 ⌝ }
-    requires { ⌜ (length (now «listed_keys») ≤ 64) × (length (now «listed_payloads») ≡ length (now «listed_keys»)) ⌝ }
+    requires { ⌜ (length (now «listed_keys») ≤ longestList) × (length (now «listed_payloads») ≡ length (now «listed_keys»)) ⌝ }
     ensures { λ r. ⌜ ((more : List ℕ) → (last ≡ true → more ≡ []) → session offset (now (input .entry) ++ more)
         (state h (mem (now (nodes .entry)) (now (slots .entry)) (now (used .entry))) (scratch (now (keys .entry)) (now (payloads .entry)) (now (places .entry)))
         (now («listed_keys» .entry)) (now («listed_payloads» .entry)))

@@ -3,16 +3,17 @@ ghost use mathlib.Core.Path.{_≡_};
 ghost use Prim.Native.Nat.{_+_, _*_, _≤_};
 ghost use lib.ListN.{length};
 ghost use Rattle.lines.specs.Kinds.{bodyLength};
-ghost use Rattle.lines.specs.Lines.{text, write};
+ghost use Rattle.lines.specs.Lines.{longestLine, text, write};
 ghost use Rattle.pool.specs.Memory.{mem};
 ghost use Rattle.rebuild.specs.Rebuilding.{scratch};
 ghost use Rattle.store.specs.Bands.{bandOf, listed};
 ghost use Rattle.store.specs.Calls.{lookupOf, replaceOf, deleteOf, looked, changed};
 ghost use Rattle.insert.specs.Inserting.{insertOf, inserted};
 ghost use Rattle.operations.specs.Printing.{answerLine, elementLines, bandLines};
+ghost use Rattle.operations.specs.Sessions.{longestList, longestAnswer};
 ghost use Rattle.operations.specs.Stepping.{state, stepOf, stepped, writeStep};
 use insert::Inserted;
-use lines::Kind;
+use laws::Key;
 use lines::Operation;
 use store::Changed;
 use store::Handle;
@@ -31,8 +32,15 @@ impl Next {
     // A band lists no more elements.
     pub const LONGEST_LIST: usize = 64;
 
+    pub const LONGEST_LINE: usize = 65;
+
     // No answer takes more bytes: a first line and a line for each element.
-    pub const LONGEST_ANSWER: usize = 65 + 64 * 64;
+    pub const LONGEST_ANSWER: usize = Next::LONGEST_LINE + Next::LONGEST_LINE * Next::LONGEST_LIST;
+
+    // Nobody calls it: its contract says that the constants are those of the definitions.
+    pub fn limits()
+        ensures { λ _. do ⌜ ((← ⟦Next::LONGEST_LIST⟧ .entry) ≡ longestList) × ((← ⟦Next::LONGEST_LINE⟧ .entry) ≡ longestLine) × ((← ⟦Next::LONGEST_ANSWER⟧ .entry) ≡ longestAnswer) ⌝ }
+    {}
 }
 
 fn inserted_number(a: Inserted) -> u64
@@ -98,7 +106,7 @@ fn insert(
     out: &mut [u8],
     at: usize,
 ) -> Next
-    requires { ⌜ at + 65 ≤ length (now out) ⌝ }
+    requires { ⌜ at + longestLine ≤ length (now out) ⌝ }
     ensures { λ r. ⌜ r .handle ≡ insertOf h key payload (mem (now (nodes .entry)) (now (slots .entry)) (now (used .entry))) (scratch (now (keys .entry)) (now (payloads .entry)) (now (places .entry))) .handle ⌝ }
     ensures { λ r. ⌜ mem (now (nodes .exit)) (now (slots .exit)) (now (used .exit))
         ≡ insertOf h key payload (mem (now (nodes .entry)) (now (slots .entry)) (now (used .entry))) (scratch (now (keys .entry)) (now (payloads .entry)) (now (places .entry))) .memory ⌝ }
@@ -106,7 +114,7 @@ fn insert(
         ≡ insertOf h key payload (mem (now (nodes .entry)) (now (slots .entry)) (now (used .entry))) (scratch (now (keys .entry)) (now (payloads .entry)) (now (places .entry))) .scratch ⌝ }
     ensures { λ r. ⌜ text (now (out .exit)) (r .at) ≡ write (text (now (out .entry)) at)
         (answerLine 1 (insertOf h key payload (mem (now (nodes .entry)) (now (slots .entry)) (now (used .entry))) (scratch (now (keys .entry)) (now (payloads .entry)) (now (places .entry))) .answer)) ⌝ }
-    ensures { λ r. ⌜ (r .at ≤ at + 65) × (length (now (out .exit)) ≡ length (now (out .entry))) ⌝ }
+    ensures { λ r. ⌜ (r .at ≤ at + longestLine) × (length (now (out .exit)) ≡ length (now (out .entry))) ⌝ }
 {
     let i = insert::insert(h, key, payload, nodes, slots, used, keys, payloads, places);
     let handle = i.handle;
@@ -129,12 +137,12 @@ fn delete(
     out: &mut [u8],
     at: usize,
 ) -> Next
-    requires { ⌜ at + 65 ≤ length (now out) ⌝ }
+    requires { ⌜ at + longestLine ≤ length (now out) ⌝ }
     ensures { λ r. ⌜ r .handle ≡ deleteOf h key (mem (now (nodes .entry)) (now (slots .entry)) (now (used .entry))) .handle ⌝ }
     ensures { λ r. ⌜ mem (now (nodes .entry)) (now (slots .exit)) (now (used .entry)) ≡ deleteOf h key (mem (now (nodes .entry)) (now (slots .entry)) (now (used .entry))) .memory ⌝ }
     ensures { λ r. ⌜ text (now (out .exit)) (r .at)
         ≡ write (text (now (out .entry)) at) (answerLine 2 (deleteOf h key (mem (now (nodes .entry)) (now (slots .entry)) (now (used .entry))) .answer)) ⌝ }
-    ensures { λ r. ⌜ (r .at ≤ at + 65) × (length (now (out .exit)) ≡ length (now (out .entry))) ⌝ }
+    ensures { λ r. ⌜ (r .at ≤ at + longestLine) × (length (now (out .exit)) ≡ length (now (out .entry))) ⌝ }
 {
     let c = store::delete(h, key, nodes, slots, used);
     let handle = c.handle;
@@ -158,12 +166,12 @@ fn replace(
     out: &mut [u8],
     at: usize,
 ) -> Next
-    requires { ⌜ at + 65 ≤ length (now out) ⌝ }
+    requires { ⌜ at + longestLine ≤ length (now out) ⌝ }
     ensures { λ r. ⌜ r .handle ≡ replaceOf h key payload (mem (now (nodes .entry)) (now (slots .entry)) (now (used .entry))) .handle ⌝ }
     ensures { λ r. ⌜ mem (now (nodes .entry)) (now (slots .exit)) (now (used .entry)) ≡ replaceOf h key payload (mem (now (nodes .entry)) (now (slots .entry)) (now (used .entry))) .memory ⌝ }
     ensures { λ r. ⌜ text (now (out .exit)) (r .at)
         ≡ write (text (now (out .entry)) at) (answerLine 5 (replaceOf h key payload (mem (now (nodes .entry)) (now (slots .entry)) (now (used .entry))) .answer)) ⌝ }
-    ensures { λ r. ⌜ (r .at ≤ at + 65) × (length (now (out .exit)) ≡ length (now (out .entry))) ⌝ }
+    ensures { λ r. ⌜ (r .at ≤ at + longestLine) × (length (now (out .exit)) ≡ length (now (out .entry))) ⌝ }
 {
     let c = store::replace(h, key, payload, nodes, slots, used);
     let handle = c.handle;
@@ -186,10 +194,10 @@ fn lookup(
     out: &mut [u8],
     at: usize,
 ) -> usize
-    requires { ⌜ at + 65 ≤ length (now out) ⌝ }
+    requires { ⌜ at + longestLine ≤ length (now out) ⌝ }
     ensures { λ r. ⌜ text (now (out .exit)) r
         ≡ write (text (now (out .entry)) at) (answerLine 3 (lookupOf h key (mem (now (nodes .entry)) (now (slots .entry)) (now (used .entry))))) ⌝ }
-    ensures { λ r. ⌜ (r ≤ at + 65) × (length (now (out .exit)) ≡ length (now (out .entry))) ⌝ }
+    ensures { λ r. ⌜ (r ≤ at + longestLine) × (length (now (out .exit)) ≡ length (now (out .entry))) ⌝ }
 {
     let answer = store::lookup(h, key, nodes, slots, used);
     let Looked::Found(payload, visits) = answer else {
@@ -202,9 +210,9 @@ fn lookup(
 // A line "= key payload" for each of the first n elements.
 fn list_elements(n: usize, keys: &[u64], payloads: &[u64], out: &mut [u8], at: usize) -> usize
     requires { ⌜ (n ≤ length (now keys)) × (n ≤ length (now payloads)) ⌝ }
-    requires { ⌜ at + 64 * n ≤ length (now out) ⌝ }
+    requires { ⌜ at + longestLine * n ≤ length (now out) ⌝ }
     ensures { λ r. ⌜ text (now (out .exit)) r ≡ write (text (now (out .entry)) at) (elementLines (now (keys .entry)) (now (payloads .entry)) 0 n) ⌝ }
-    ensures { λ r. ⌜ (r ≤ at + 64 * n) × (length (now (out .exit)) ≡ length (now (out .entry))) ⌝ }
+    ensures { λ r. ⌜ (r ≤ at + longestLine * n) × (length (now (out .exit)) ≡ length (now (out .entry))) ⌝ }
 {
     let mut end = at;
     let mut i = 0;
@@ -227,13 +235,13 @@ fn band(
     out: &mut [u8],
     at: usize,
 ) -> usize
-    requires { ⌜ (length (now keys) ≤ 64) × (length (now payloads) ≡ length (now keys)) ⌝ }
-    requires { ⌜ at + (65 + 64 * 64) ≤ length (now out) ⌝ }
+    requires { ⌜ (length (now keys) ≤ longestList) × (length (now payloads) ≡ length (now keys)) ⌝ }
+    requires { ⌜ at + longestAnswer ≤ length (now out) ⌝ }
     ensures { λ r. ⌜ now (keys .exit) ≡ bandOf h u v (mem (now (nodes .entry)) (now (slots .entry)) (now (used .entry))) (now (keys .entry)) (now (payloads .entry)) .keys ⌝ }
     ensures { λ r. ⌜ now (payloads .exit) ≡ bandOf h u v (mem (now (nodes .entry)) (now (slots .entry)) (now (used .entry))) (now (keys .entry)) (now (payloads .entry)) .payloads ⌝ }
     ensures { λ r. ⌜ text (now (out .exit)) r ≡ write (text (now (out .entry)) at)
         (bandLines (bandOf h u v (mem (now (nodes .entry)) (now (slots .entry)) (now (used .entry))) (now (keys .entry)) (now (payloads .entry)))) ⌝ }
-    ensures { λ r. ⌜ (r ≤ at + (65 + 64 * 64)) × (length (now (out .exit)) ≡ length (now (out .entry))) ⌝ }
+    ensures { λ r. ⌜ (r ≤ at + longestAnswer) × (length (now (out .exit)) ≡ length (now (out .entry))) ⌝ }
 {
     let answer = store::bands::band(h, u, v, nodes, slots, used, keys, payloads);
     let Listed::Done(n, more) = answer else {
@@ -261,8 +269,8 @@ pub fn step(
     at: usize,
 ) -> Next
     requires { ⌜ length (now body) ≡ bodyLength operation ⌝ }
-    requires { ⌜ (length (now «listed_keys») ≤ 64) × (length (now «listed_payloads») ≡ length (now «listed_keys»)) ⌝ }
-    requires { ⌜ at + (65 + 64 * 64) ≤ length (now out) ⌝ }
+    requires { ⌜ (length (now «listed_keys») ≤ longestList) × (length (now «listed_payloads») ≡ length (now «listed_keys»)) ⌝ }
+    requires { ⌜ at + longestAnswer ≤ length (now out) ⌝ }
     ensures { λ r. ⌜ stepped
         (state (r .handle) (mem (now (nodes .exit)) (now (slots .exit)) (now (used .exit))) (scratch (now (keys .exit)) (now (payloads .exit)) (now (places .exit)))
         (now («listed_keys» .exit)) (now («listed_payloads» .exit)))
@@ -271,12 +279,12 @@ pub fn step(
         (state h (mem (now (nodes .entry)) (now (slots .entry)) (now (used .entry))) (scratch (now (keys .entry)) (now (payloads .entry)) (now (places .entry)))
         (now («listed_keys» .entry)) (now («listed_payloads» .entry))))
         (text (now (out .entry)) at) ⌝ }
-    ensures { λ r. ⌜ (r .at ≤ at + (65 + 64 * 64)) × (length (now (out .exit)) ≡ length (now (out .entry))) ⌝ }
+    ensures { λ r. ⌜ (r .at ≤ at + longestAnswer) × (length (now (out .exit)) ≡ length (now (out .entry))) ⌝ }
 {
     match operation {
         Operation::Insert => {
             let key = lines::key_at(body, 0);
-            let payload = lines::payload_at(body, Kind::KEY_BYTES);
+            let payload = lines::payload_at(body, Key::BYTES);
             insert(
                 h,
                 key,
@@ -302,7 +310,7 @@ pub fn step(
         }
         Operation::Band => {
             let u = lines::key_at(body, 0);
-            let v = lines::key_at(body, Kind::KEY_BYTES);
+            let v = lines::key_at(body, Key::BYTES);
             let end = band(
                 h,
                 u,
@@ -319,7 +327,7 @@ pub fn step(
         }
         Operation::Replace => {
             let key = lines::key_at(body, 0);
-            let payload = lines::payload_at(body, Kind::KEY_BYTES);
+            let payload = lines::payload_at(body, Key::BYTES);
             replace(h, key, payload, nodes, slots, used, out, at)
         }
     }

@@ -1,4 +1,4 @@
--- The example of docs/MEMORY.md, word by word: the store of P4 in 4 records and 24 slots as the stores leave it, what is read
+-- The example of docs/MEMORY.md, word by word: the store of P4 with 1 for 0 in 4 records and 24 slots as the stores leave it, what is read
 -- there, and one bad value for each rule of reading. Assumes nothing.
 use mathlib.Core.List.{List, [], _∷_, _++_}
 use mathlib.Core.Path.{_≡_, refl}
@@ -17,7 +17,7 @@ abbrev root : Node
 root = record { model = record { lo = 101; w = 2; l = 12 }; start = 0 }
 
 abbrev low : Node
-low = record { model = record { lo = 0; w = 101; l = 4 }; start = 12 }
+low = record { model = record { lo = 1; w = 100; l = 4 }; start = 12 }
 
 abbrev high : Node
 high = record { model = record { lo = 10000; w = 10001; l = 4 }; start = 16 }
@@ -25,7 +25,7 @@ high = record { model = record { lo = 10000; w = 10001; l = 4 }; start = 16 }
 abbrev nodes : List ℕ
 nodes =
     101 ∷ 2 ∷ 12 ∷ 0 ∷ 6 ∷ 6 ∷ 0 ∷ 0
-    ∷ 0 ∷ 101 ∷ 4 ∷ 12 ∷ 2 ∷ 2 ∷ 0 ∷ 0
+    ∷ 1 ∷ 100 ∷ 4 ∷ 12 ∷ 2 ∷ 2 ∷ 0 ∷ 0
     ∷ 10000 ∷ 10001 ∷ 4 ∷ 16 ∷ 2 ∷ 2 ∷ 0 ∷ 0
     ∷ replicate 8 0
 
@@ -39,7 +39,7 @@ child c = 2 * 2 ^ 48 + c
 abbrev slots : List ℕ
 slots =
     child 1 ∷ 0 ∷ key 101 ∷ 3 ∷ (replicate 8 0 ++ key 102 ∷ 4 ∷ (replicate 8 0 ++ child 2 ∷ 0
-    ∷ 0 ∷ 0 ∷ key 0 ∷ 1 ∷ key 100 ∷ 2 ∷ 0 ∷ 0
+    ∷ 0 ∷ 0 ∷ key 1 ∷ 1 ∷ key 100 ∷ 2 ∷ 0 ∷ 0
     ∷ 0 ∷ 0 ∷ key 10000 ∷ 5 ∷ key 20000 ∷ 6 ∷ 0 ∷ 0
     ∷ replicate 8 0))
 
@@ -52,7 +52,7 @@ unfolding putNode
 nodes-stored = refl
 
 slots-stored :
-    putData (putData (putData (putData (putChild (putData (putData (putChild (replicate 48 0) 0 1) 1 101 3) 6 102 4) 11 2) 13 0 1) 14 100 2) 17 10000 5) 18 20000 6
+    putData (putData (putData (putData (putChild (putData (putData (putChild (replicate 48 0) 0 1) 1 101 3) 6 102 4) 11 2) 13 1 1) 14 100 2) 17 10000 5) 18 20000 6
     ≡ slots
 unfolding putData putChild
 slots-stored = refl

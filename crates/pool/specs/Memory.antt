@@ -3,6 +3,7 @@
 use mathlib.Core.List.{List}
 use Prim.Native.Nat.{ℕ, _+_, _*_, _/_, _^_}
 use lib.ListN.{length}
+use Rattle.laws.specs.Keys.{keyBound}
 
 pub record Mem : Type 0 where
   pub nodes : List ℕ
@@ -61,7 +62,7 @@ payloadWord q = q * slotWords + 1
 
 -- a kind and its value: kind x 2^48 + value
 abbrev pub kindUnit : ℕ
-kindUnit = 2 ^ 48
+kindUnit = keyBound
 
 -- the kinds: NULL, a DATA slot with its key, a NODE slot with its child's record
 abbrev pub nullKind : ℕ

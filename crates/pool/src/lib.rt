@@ -2,10 +2,12 @@
 ghost use mathlib.Core.Path.{_≡_};
 ghost use Prim.Native.Nat.{_+_, _*_, _^_, _<_, _≤_};
 ghost use lib.ListN.{length, replicate};
+ghost use Rattle.laws.specs.Keys.{keyBound};
 ghost use Rattle.model.specs.Slots.{InRange};
-ghost use Rattle.pool.specs.Memory.{mem};
+ghost use Rattle.pool.specs.Memory.{mem, kindUnit};
 ghost use Rattle.pool.specs.Reading.{nodeAt, slotAt};
 ghost use Rattle.pool.specs.Writing.{putNode, putData, putChild, putNull, zeroRecord, zeroRun};
+use laws::Key;
 use model::Model;
 
 // A node as its record has it: its model, and the first slot of its run. One that node_at calls good has its model in range
@@ -44,7 +46,7 @@ pub enum Slot {
 }
 
 impl Slot {
-    pub const UNIT: u64 = 1 << 48;
+    pub const UNIT: u64 = Key::BOUND;
 
     pub const NULL: u64 = 0;
 
@@ -88,10 +90,10 @@ pub fn node_at(nodes: &[u64], slots: &[u64], used: &[u64], r: usize) -> Record
     if w < 1 {
         return Record::Broken(Record::MODEL_OUT_OF_RANGE);
     }
-    if Model::BOUND < w {
+    if Model::VALUE_BOUND < w {
         return Record::Broken(Record::MODEL_OUT_OF_RANGE);
     }
-    if Model::BOUND - w < lo {
+    if Model::VALUE_BOUND - w < lo {
         return Record::Broken(Record::MODEL_OUT_OF_RANGE);
     }
     Record::Good(Node {
@@ -146,7 +148,7 @@ pub fn put_node(nodes: &mut [u64], r: usize, n: Node, count: u64)
 // Slot q holds a key and its payload.
 pub fn put_data(slots: &mut [u64], q: usize, key: u64, payload: u64)
     requires { ⌜ q * 2 + 1 < length (now slots) ⌝ }
-    requires { ⌜ key < 2 ^ 48 ⌝ }
+    requires { ⌜ key < keyBound ⌝ }
     ensures { λ a. ⌜ now (slots .exit) ≡ putData (now (slots .entry)) q key payload ⌝ }
 {
     let at = q * Node::SLOT_WORDS;
@@ -157,7 +159,7 @@ pub fn put_data(slots: &mut [u64], q: usize, key: u64, payload: u64)
 // Slot q leads to the record of a child.
 pub fn put_child(slots: &mut [u64], q: usize, child: usize)
     requires { ⌜ q * 2 + 1 < length (now slots) ⌝ }
-    requires { ⌜ child < 2 ^ 48 ⌝ }
+    requires { ⌜ child < kindUnit ⌝ }
     ensures { λ a. ⌜ now (slots .exit) ≡ putChild (now (slots .entry)) q child ⌝ }
 {
     let at = q * Node::SLOT_WORDS;

@@ -13,8 +13,8 @@ ghost use Rattle.build.specs.Building.{out};
 ghost use Rattle.walk.specs.Walks.{longestPath};
 use build::Built;
 use build::Hint;
+use laws::Key;
 use listing::Counted;
-use model::Model;
 use pool::Node;
 use walk::Path;
 use walk::Rules;
@@ -57,7 +57,7 @@ pub fn is_sound(
         top,
         rules,
         0,
-        Model::BOUND - 1,
+        Key::BOUND - 1,
         capacity,
     ) {
         Counted::Done(_count, _more) => true,
@@ -109,7 +109,7 @@ fn gather(
         top,
         rules,
         key,
-        Model::BOUND - 1,
+        Key::BOUND - 1,
         capacity,
         keys,
         payloads,

@@ -4,7 +4,7 @@ ghost use Prim.Native.Nat.{_+_, _-_, _^_, _<_, _≤_};
 ghost use lib.ListN.{length, replicate, take, drop};
 ghost use Rattle.operations.specs.Blocks.{Rests};
 ghost use Rattle.operations.specs.Runs.{RunsTo};
-ghost use Rattle.operations.specs.Sessions.{start};
+ghost use Rattle.operations.specs.Sessions.{longestList, start};
 ghost use Rattle.operations.specs.Stepping.{state};
 ghost use Rattle.pool.specs.Memory.{mem};
 ghost use Rattle.rebuild.specs.Rebuilding.{scratch};
@@ -34,7 +34,8 @@ impl Stage {
 
     pub const MAP_WORDS: usize = (Stage::RECORDS + Stage::SLOTS + 63) / 64;
 
-    // A proved loop has to end, and nothing says that an input does: so many blocks, more than any input has.
+    // A proved loop has to end, and nothing says that an input does: after so many blocks, which only an endless pipe can have, the
+    // program stops without a line.
     pub const TURNS: u64 = 140737488355328;
 }
 
@@ -79,7 +80,7 @@ fn run_held(
     out: &mut [u8],
 ) -> Turn
     requires { ⌜ (stage .held ≤ length (now input)) × (stage .offset + stage .held < 2 ^ 64) ⌝ }
-    requires { ⌜ (length (now «listed_keys») ≤ 64) × (length (now «listed_payloads») ≡ length (now «listed_keys»)) ⌝ }
+    requires { ⌜ (length (now «listed_keys») ≤ longestList) × (length (now «listed_payloads») ≡ length (now «listed_keys»)) ⌝ }
     ensures { λ r. ⌜ RunsTo (stage .last) (stage .offset) (take (stage .held) (now (input .entry)))
         (state (stage .handle) (mem (now (nodes .entry)) (now (slots .entry)) (now (used .entry))) (scratch (now (keys .entry)) (now (payloads .entry)) (now (places .entry)))
         (now («listed_keys» .entry)) (now («listed_payloads» .entry)))

@@ -1,7 +1,8 @@
 // Studio keys. A sounding's depth and number are packed into one key, so that key order is shoalest first, and a key is taken
 // apart again. Both calls answer for every number that a caller can pass: out of range is an answer of its own.
 ghost use mathlib.Core.Path.{_≡_};
-ghost use Rattle.sounding.specs.Studio.{packed, packOf, unpacked, unpackOf};
+ghost use Rattle.sounding.specs.Studio.{leastDepth, mostDepth, mostNumber, packed, packOf, unpacked, unpackOf};
+use laws::Key;
 
 // A depth in centimetres, negative where it dries, and the sounding's number at that depth.
 pub struct Sounding {
@@ -16,10 +17,13 @@ impl Sounding {
 
     pub const MOST_NUMBER: u64 = 268_435_455;
 
-    // How many numbers one depth has, and how many keys there are.
+    // How many numbers one depth has.
     pub const NUMBERS: u64 = 1 << 28;
 
-    pub const KEYS: u64 = 1 << 48;
+    // Nobody calls it: its contract says that the constants are those of the definitions.
+    pub fn limits()
+        ensures { λ _. do ⌜ ((← ⟦Sounding::LEAST_DEPTH⟧ .entry) ≡ leastDepth) × ((← ⟦Sounding::MOST_DEPTH⟧ .entry) ≡ mostDepth) × ((← ⟦Sounding::MOST_NUMBER⟧ .entry) ≡ mostNumber) ⌝ }
+    {}
 }
 
 pub enum Packed {
@@ -51,7 +55,7 @@ pub fn pack(depth: i64, number: u64) -> Packed
 pub fn unpack(key: u64) -> Unpacked
     ensures { λ r. ⌜ unpacked r ≡ unpackOf key ⌝ }
 {
-    if Sounding::KEYS <= key {
+    if Key::BOUND <= key {
         return Unpacked::OutOfRange;
     }
     let above = (key / Sounding::NUMBERS) as i64;

@@ -4,8 +4,8 @@ ghost use Rattle.pool.specs.Memory.{mem};
 ghost use Rattle.store.specs.Bands.{band, bandOf, listed};
 use crate::Handle;
 use crate::Listed;
+use laws::Key;
 use listing::Counted;
-use model::Model;
 use pool::Node;
 use walk::Rules;
 use walk::Span;
@@ -30,10 +30,10 @@ pub fn band(
     if keys.len() != payloads.len() {
         return Listed::WrongSizes;
     }
-    if Model::BOUND <= u {
+    if Key::BOUND <= u {
         return Listed::OutOfRange;
     }
-    if Model::BOUND <= v {
+    if Key::BOUND <= v {
         return Listed::OutOfRange;
     }
     if v < u {

@@ -7,6 +7,7 @@ ghost use Rattle.store.specs.Loading.{firstFault, emptied, loadFits, loa
 ghost use Rattle.store.specs.Handles.{handleFits, limitsHold, poolsAre, mostRecords, mostPoolSlots};
 use build::Built;
 use build::Hint;
+use laws::Key;
 use model::Model;
 use pool::Node;
 use walk::End;
@@ -172,7 +173,7 @@ fn find(h: Handle, key: u64, nodes: &[u64], slots: &[u64], used: &[u64]) -> Sear
     if !h.fits(nodes, slots, used) {
         return Search::WrongSizes;
     }
-    if Model::BOUND <= key {
+    if Key::BOUND <= key {
         return Search::OutOfRange;
     }
     let f = walk::follow(nodes, slots, used, h.root, key);
@@ -265,7 +266,7 @@ fn first_fault(keys: &[u64]) -> Fault
     let mut i = 0;
     while i < keys.len() {
         let k = keys[i];
-        if Model::BOUND <= k {
+        if Key::BOUND <= k {
             return Fault::OutOfRange;
         }
         if k < least {

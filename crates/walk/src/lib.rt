@@ -5,7 +5,7 @@ ghost use mathlib.Core.List.{[]};
 ghost use Rattle.laws.specs.Keys.{keyBound};
 ghost use Rattle.model.specs.Slots.{InRange};
 ghost use Rattle.pool.specs.Memory.{mem, slotsIn};
-ghost use Rattle.walk.specs.Walks.{pathOf, stepGood, stepOf, followOf, traceOf};
+ghost use Rattle.walk.specs.Walks.{longestPath, pathOf, stepGood, stepOf, followOf, traceOf};
 use pool::Node;
 use pool::Record;
 use pool::Slot;
@@ -31,18 +31,23 @@ pub enum Step {
 
 // The nodes on a key's path, the root first.
 pub struct Path {
-    pub nodes: [usize; 24],
+    pub nodes: [usize; Path::LONGEST],
     pub len: usize,
 }
 
 impl Path {
     pub const LONGEST: usize = 24;
 
+    // Nobody calls it: its contract says that the constant is that of the definitions.
+    pub fn limits()
+        ensures { λ _. do ⌜ (← ⟦Path::LONGEST⟧ .entry) ≡ longestPath ⌝ }
+    {}
+
     pub fn new() -> Self
         ensures { λ r. ⌜ r ≡ pathOf [] ⌝ }
     {
         Self {
-            nodes: [0usize; 24],
+            nodes: [0usize; Path::LONGEST],
             len: 0,
         }
     }

@@ -5,7 +5,7 @@ use Prim.Native.Nat.{_+_, _*_, _-_, _≤_}
 use lib.ListN.{length}
 use native.Mathlib.Omega.{arith}
 use borrow.Author.Needs.{needs}
-use Rattle.lines.specs.Lines.{text, write}
+use Rattle.lines.specs.Lines.{longestLine, text, write}
 use Rattle.operations.specs.Printing.{elementLines}
 use Rattle.operations.proofs.Elements.{elements-next, elements-end}
 use Rattle.operations.proofs.list_elements.Statement.{statement}
@@ -17,7 +17,7 @@ use Rattle.lines.proofs.line_of_two.Reads as line-of-two-reads
 abbrev Inv-loop : tie.InvT-loop
 Inv-loop n keys payloads out₀ at end₀ i₀ out end i =
     (write (text out end) (elementLines keys payloads i (n - i)) ≡ write (text out₀ at) (elementLines keys payloads 0 n))
-    × ((end ≤ at + 64 * i) × ((length out ≡ length out₀) × (i ≤ n)))
+    × ((end ≤ at + longestLine * i) × ((length out ≡ length out₀) × (i ≤ n)))
 
 abbrev μ-loop : tie.MeasureT-loop
 μ-loop n keys payloads out₀ at end₀ i₀ out end i = n - i

@@ -1,5 +1,5 @@
--- `session::talk` ends and meets what it calls. The invariant: with what was printed, what is left is the session of all that was read
--- (proofs/Carrying); the bytes held are within the buffer; with as many blocks as are left to read the offset stays below 2^63.
+-- `session::talk` ends and meets what it calls. The invariant: a session of some bytes, begun at the start, stands where the program
+-- stands (`SoFar`, proofs/Carrying; which bytes were read and printed it does not say); the bytes held are within the buffer; with as many blocks as are left to read the offset stays below 2^63.
 -- Assumes nothing.
 use mathlib.Core.Path.{_≡_, refl, sym, _∙_}
 use Prim.Native.Nat.{_+_, _*_, _≤_}
