@@ -1,5 +1,9 @@
 pub mod Conflicts
+pub mod Dropping
 pub mod Gathering
 pub mod Judging
 pub mod Rebuilds
+pub mod Releases
 mod Samples
+pub mod Soundness
+pub mod Zeroing
