@@ -1,29 +1,31 @@
--- What every build keeps, whatever the memory: the lengths of the lists and the marks already made; and that the record it
--- answers is one of the table's. Laws of the definitions alone. Assumes nothing.
-use mathlib.Core.Bool.{true}
+-- What every build keeps, whatever the memory: the lengths of the lists, the marks already made and every word of what is marked used; and
+-- that the record it answers is one of the table's. Laws of the definitions alone. Assumes nothing.
+use mathlib.Core.Bool.{true, false}
 use mathlib.Core.List.{List, [], _∷_}
 use mathlib.Core.Logic.{_⊎_, inl, inr, ⊎-elim}
 use mathlib.Core.Path.{_≡_, refl, sym, _∙_}
-use Prim.Native.Nat.{ℕ, zero, suc, _+_, _<_}
+use Prim.Native.Nat.{ℕ, zero, suc, _+_, _*_, _<_, _≤_}
 use native.Mathlib.Omega.{arith}
 use borrow.Author.Tests.{eqb-true, eqb-false, ltb-true}
 use lib.Dec.{eqb, ltb}
 use lib.ListN.{length, getD}
-use Rattle.laws.proofs.Tests.{both, le-or-lt}
-use Rattle.marks.specs.Used.{usedAt, markAt, markRun}
+use Rattle.laws.proofs.Tests.{both, le-or-lt, true-not-false}
+use Rattle.marks.specs.Used.{usedAt, markAt, markRun, freeRun}
 use Rattle.marks.specs.declared.Run.the-variants.{At as RunAt, Nowhere}
 use Rattle.marks.specs.declared.Run.{Run}
+use Rattle.marks.proofs.Lowest.{first-unused-at, lowest-run-finds}
 use Rattle.marks.proofs.Marks.{mark-length, mark-other, used-within}
-use Rattle.marks.proofs.Runs.{mark-run-length, mark-run-in, mark-run-out}
+use Rattle.marks.proofs.Runs.{mark-run-length, mark-run-in, mark-run-out, free-run-at}
 use Rattle.model.specs.Choice.{modelOf}
 use Rattle.model.specs.Groups.{keysTo}
 use Rattle.model.specs.declared.Model.{Model}
-use Rattle.pool.specs.Memory.{Mem, recordsIn, slotPlace}
+use Rattle.pool.specs.Memory.{Mem, slotWords, recordsIn, slotsIn, slotPlace, kindWord}
 use Rattle.pool.specs.Writing.{putChild}
 use Rattle.pool.specs.declared.Node.{Node}
-use Rattle.pool.proofs.RecordStores.{length-put-node}
-use Rattle.pool.proofs.RunStores.{length-zero-run}
-use Rattle.pool.proofs.SlotStores.{length-put-data, length-put-child}
+use Rattle.pool.proofs.Growth.{Keeps, Grows, grows-same, grows-both, grows-slot-stored, used-apart}
+use Rattle.pool.proofs.RecordStores.{length-put-node, put-node-other}
+use Rattle.pool.proofs.RunStores.{length-zero-run, zero-run-outside}
+use Rattle.pool.proofs.SlotStores.{length-put-data, length-put-child, put-data-other, put-child-other}
 use Rattle.build.specs.Building.{Out, out, next, andThen, Builder, withSlots, lowestRecord, lowestSlots, placeNode, payloadsTo, fillSlot, fillSlots, nodeOn, nodeWith, build}
 use Rattle.build.specs.declared.Built.the-variants.{At, NoRoom}
 use Rattle.build.specs.declared.Built.{Built}
@@ -47,27 +49,6 @@ mark-run-keeps u p n q e =
     (λ h. mark-run-out u p n q (inl h) ∙ e)
     (le-or-lt p q)
 
--- no list longer or shorter, and no mark less
-pub record Keeps (m m′ : Mem) : Type 0 where
-  pub nodes : length (m′ .nodes) ≡ length (m .nodes)
-  pub slots : length (m′ .slots) ≡ length (m .slots)
-  pub used : length (m′ .used) ≡ length (m .used)
-  pub marks : (p : ℕ) → usedAt (m .used) p ≡ true → usedAt (m′ .used) p ≡ true
-
-pub keeps-same : (m : Mem) → Keeps m m
-keeps-same m = record { nodes = refl; slots = refl; used = refl; marks = λ p e. e }
-
-pub keeps-both : (a b c : Mem) → Keeps a b → Keeps b c → Keeps a c
-keeps-both a b c h k = record {
-  nodes = k .nodes ∙ h .nodes;
-  slots = k .slots ∙ h .slots;
-  used = k .used ∙ h .used;
-  marks = λ p e. k .marks p (h .marks p e);
-}
-
-keeps-slots : (m : Mem) (s : List ℕ) → length s ≡ length (m .slots) → Keeps m (withSlots m s)
-keeps-slots m s e = record { nodes = refl; slots = e; used = refl; marks = λ p h. h }
-
 pub place-keeps : (m : Mem) (r : ℕ) (n : Node) (count : ℕ) → Keeps m (placeNode m r n count)
 unfolding placeNode
 place-keeps m r n count = record {
@@ -77,56 +58,98 @@ place-keeps m r n count = record {
   marks = λ p e. mark-run-keeps (markAt (m .used) r) (slotPlace (m .nodes) (n .start)) (n .model .l) p (mark-keeps (m .used) r p e);
 }
 
--- one after the other
-next-keeps : (m : Mem) (b : Built) (m′ : Mem) (f : ℕ → Mem → Out) → Keeps m m′
-    → ((r : ℕ) (x : Mem) → Keeps x (f r x .memory))
-    → Keeps m (next b m′ f .memory)
-next-keeps m (At r) m′ f k g = keeps-both m m′ (f r m′ .memory) k (g r m′)
-next-keeps m NoRoom m′ f k g = k
+-- a node placed on an unused record and an unused run
+pub place-grows : (m : Mem) (r : ℕ) (n : Node) (count : ℕ) → usedAt (m .used) r ≡ false
+    → freeRun (m .used) (slotPlace (m .nodes) (n .start)) (n .model .l) ≡ true → Grows m (placeNode m r n count)
+unfolding placeNode
+place-grows m r n count free run = record {
+  keeps = place-keeps m r n count;
+  records = λ x lt e i li. put-node-other (m .nodes) r n count x i (used-apart (m .used) x r e free) li;
+  runs = λ x lt e i li. zero-run-outside (m .slots) (n .start) (n .model .l) (x * slotWords + i) (outside x i e li);
+}
+  where
+    outside : (x i : ℕ) → usedAt (m .used) (slotPlace (m .nodes) x) ≡ true → i < slotWords
+        → (x * slotWords + i < kindWord (n .start)) ⊎ (kindWord (n .start + n .model .l) ≤ x * slotWords + i)
+    outside x i e li =
+        ⊎-elim
+        (λ from.
+        ⊎-elim
+        (λ past. inr (omega arith))
+        (λ within.
+        absurd (true-not-false (sym e ∙ free-run-at (m .used) (slotPlace (m .nodes) (n .start)) (n .model .l) run (slotPlace (m .nodes) x) (omega arith) (omega arith))))
+        (le-or-lt (n .start + n .model .l) x))
+        (λ before. inl (omega arith))
+        (le-or-lt (n .start) x)
 
-then-keeps : (m : Mem) (o : Out) (f : ℕ → Mem → Out) → Keeps m (o .memory) → ((r : ℕ) (x : Mem) → Keeps x (f r x .memory)) → Keeps m (andThen o f .memory)
-then-keeps m o f k g = next-keeps m (o .built) (o .memory) f k g
+-- the lowest unused record is not used, where there is one
+lowest-unused : (m : Mem) → lowestRecord m < recordsIn (m .nodes) → usedAt (m .used) (lowestRecord m) ≡ false
+unfolding lowestRecord
+lowest-unused m h =
+    let e : 0 + lowestRecord m ≡ lowestRecord m = omega arith in
+    rw e at (first-unused-at (m .used) 0 (recordsIn (m .nodes)) (lowestRecord m) refl .2 h)
 
-abbrev BuilderKeeps : Builder → Type 0
-BuilderKeeps B = (ks ps : List ℕ) (m : Mem) → Keeps m (B ks ps m .memory)
+abbrev BuilderGrows : Builder → Type 0
+BuilderGrows B = (ks ps : List ℕ) (m : Mem) → Grows m (B ks ps m .memory)
 
-module _ (B : Builder) (k : BuilderKeeps B) where
-  slot-keeps : (r q : ℕ) → BuilderKeeps (fillSlot B r q)
+-- what is built in a memory x that m grew to: m grows to all that it leaves
+module _ (B : Builder) (b : BuilderGrows B) (m : Mem) where
+  -- one after the other
+  next-grows : (w : Built) (x : Mem) (f : ℕ → Mem → Out) → Grows m x → ((r : ℕ) (y : Mem) → Grows m y → Grows m (f r y .memory)) → Grows m (next w x f .memory)
+  next-grows (At r) x f g h = h r x g
+  next-grows NoRoom x f g h = g
+
+  then-grows : (o : Out) (f : ℕ → Mem → Out) → Grows m (o .memory) → ((r : ℕ) (y : Mem) → Grows m y → Grows m (f r y .memory)) → Grows m (andThen o f .memory)
+  then-grows o f g h = next-grows (o .built) (o .memory) f g h
+
+  -- a slot that m did not use
+  slot-grows : (r q : ℕ) → usedAt (m .used) (slotPlace (m .nodes) q) ≡ false → (ks ps : List ℕ) (x : Mem) → Grows m x → Grows m (fillSlot B r q ks ps x .memory)
   unfolding fillSlot
-  slot-keeps r q [] ps m = keeps-same m
-  slot-keeps r q (x ∷ []) ps m = keeps-slots m _ (length-put-data (m .slots) q x (getD ps 0 0))
-  slot-keeps r q (x ∷ y ∷ ks) ps m =
-      then-keeps m (B (x ∷ y ∷ ks) ps m) (λ c m′. out (At r) (withSlots m′ (putChild (m′ .slots) q c))) (k (x ∷ y ∷ ks) ps m)
-      (λ c m′. keeps-slots m′ _ (length-put-child (m′ .slots) q c))
+  slot-grows r q free [] ps x g = g
+  slot-grows r q free (k ∷ []) ps x g =
+      grows-slot-stored m x g q free _ (length-put-data (x .slots) q k (getD ps 0 0)) (put-data-other (x .slots) q k (getD ps 0 0))
+  slot-grows r q free (k ∷ j ∷ ks) ps x g =
+      then-grows (B (k ∷ j ∷ ks) ps x) (λ c y. out (At r) (withSlots y (putChild (y .slots) q c)))
+      (grows-both m x (B (k ∷ j ∷ ks) ps x .memory) g (b (k ∷ j ∷ ks) ps x))
+      (λ c y h. grows-slot-stored m y h q free _ (length-put-child (y .slots) q c) (put-child-other (y .slots) q c))
 
-  slots-keep : (r : ℕ) (node : Node) (n s : ℕ) → BuilderKeeps (fillSlots B r node n s)
+  slots-grow : (r : ℕ) (node : Node) (n s : ℕ) → ((i : ℕ) → s ≤ i → i < s + n → usedAt (m .used) (slotPlace (m .nodes) (node .start + i)) ≡ false)
+      → (ks ps : List ℕ) (x : Mem) → Grows m x → Grows m (fillSlots B r node n s ks ps x .memory)
   unfolding fillSlots
-  slots-keep r node zero s ks ps m = keeps-same m
-  slots-keep r node (suc n) s ks ps m =
-      then-keeps m
-      (fillSlot B r (node .start + s) (keysTo (node .model) s ks) (payloadsTo (node .model) s ks ps) m)
-      (λ r′ m′. fillSlots B r node n (s + 1) ks ps m′)
-      (slot-keeps r (node .start + s) (keysTo (node .model) s ks) (payloadsTo (node .model) s ks ps) m)
-      (λ r′ m′. slots-keep r node n (s + 1) ks ps m′)
+  slots-grow r node zero s free ks ps x g = g
+  slots-grow r node (suc n) s free ks ps x g =
+      then-grows
+      (fillSlot B r (node .start + s) (keysTo (node .model) s ks) (payloadsTo (node .model) s ks ps) x)
+      (λ r′ y. fillSlots B r node n (s + 1) ks ps y)
+      (slot-grows r (node .start + s) (free s (omega arith) (omega arith)) (keysTo (node .model) s ks) (payloadsTo (node .model) s ks ps) x g)
+      (λ r′ y h. slots-grow r node n (s + 1) (λ i lo hi. free i (omega arith) (omega arith)) ks ps y h)
 
-  on-keeps : (r : ℕ) (md : Model) (w : Run) → BuilderKeeps (nodeOn B r md w)
-  unfolding nodeOn
-  on-keeps r md Nowhere ks ps m = keeps-same m
-  on-keeps r md (RunAt s) ks ps m =
+  on-grows : (r : ℕ) → usedAt (m .used) r ≡ false → (md : Model) (w : Run) → lowestSlots m (md .l) ≡ w → (ks ps : List ℕ) → Grows m (nodeOn B r md w ks ps m .memory)
+  unfolding nodeOn lowestSlots
+  on-grows r free md Nowhere e ks ps = grows-same m
+  on-grows r free md (RunAt s) e ks ps =
       let n : Node = record { model = md; start = s } in
-      keeps-both m (placeNode m r n (length ks)) _ (place-keeps m r n (length ks)) (slots-keep r n (md .l) 0 ks ps (placeNode m r n (length ks)))
+      let run = lowest-run-finds (m .used) (recordsIn (m .nodes)) (slotsIn (m .slots)) (md .l) s e .1 in
+      slots-grow r n (md .l) 0
+      (λ i lo hi. free-run-at (m .used) (slotPlace (m .nodes) s) (md .l) run (slotPlace (m .nodes) (s + i)) (omega arith) (omega arith))
+      ks ps (placeNode m r n (length ks)) (place-grows m r n (length ks) free run)
 
-  node-keeps : BuilderKeeps (nodeWith B)
+  node-grows : (ks ps : List ℕ) → Grows m (nodeWith B ks ps m .memory)
   unfolding nodeWith
-  node-keeps ks ps m =
+  node-grows ks ps =
       both (ltb (lowestRecord m) (recordsIn (m .nodes)))
-      (λ e. rw e (on-keeps (lowestRecord m) (modelOf ks) (lowestSlots m (modelOf ks .l)) ks ps m))
-      (λ e. rw e (keeps-same m))
+      (λ t.
+      rw t
+      (on-grows (lowestRecord m) (lowest-unused m (ltb-true _ _ t)) (modelOf ks) (lowestSlots m (modelOf ks .l)) refl ks ps))
+      (λ t. rw t (grows-same m))
+
+-- A build takes unused records and unused runs alone, with room or without.
+pub build-grows : (depth : ℕ) (ks ps : List ℕ) (m : Mem) → Grows m (build depth ks ps m .memory)
+unfolding build
+build-grows zero ks ps m = grows-same m
+build-grows (suc depth) ks ps m = node-grows (build depth) (build-grows depth) m ks ps
 
 pub build-keeps : (depth : ℕ) (ks ps : List ℕ) (m : Mem) → Keeps m (build depth ks ps m .memory)
-unfolding build
-build-keeps zero ks ps m = keeps-same m
-build-keeps (suc depth) ks ps m = node-keeps (build depth) (build-keeps depth) ks ps m
+build-keeps depth ks ps m = build-grows depth ks ps m .keeps
 
 module _ (depth : ℕ) (ks ps : List ℕ) (m : Mem) where
   pub build-nodes-length : length (build depth ks ps m .memory .nodes) ≡ length (m .nodes)

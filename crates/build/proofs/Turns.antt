@@ -15,6 +15,7 @@ use Rattle.model.proofs.Least.{chosen-in-range}
 use Rattle.pool.specs.Memory.{Mem, slotsIn}
 use Rattle.pool.specs.Writing.{putData, putChild}
 use Rattle.pool.specs.declared.Node.{Node}
+use Rattle.pool.proofs.Growth.{Keeps}
 use Rattle.pool.proofs.SlotStores.{length-put-data, length-put-child}
 use Rattle.build.specs.Building.{Out, out, withSlots, placeNode, fillSlots, build}
 use Rattle.build.specs.Hints.{Sized, Hinted, Builds}
@@ -27,7 +28,7 @@ use Rattle.build.specs.declared.Place.{Place}
 use Rattle.build.specs.declared.Placed.the-variants.{Here, Nowhere as NoPlace}
 use Rattle.build.specs.declared.Placed.{Placed}
 use Rattle.build.proofs.Filter.{Filled, filled-start, filled-end, filled-data, filled-group, filled-full}
-use Rattle.build.proofs.Kept.{Keeps, place-keeps, build-within}
+use Rattle.build.proofs.Kept.{place-keeps, build-within}
 use Rattle.build.proofs.Level.{build-no-fuel, build-nowhere, build-begun}
 use Rattle.build.proofs.Places.{Takes, here-takes, takes-run, takes-hinted}
 

@@ -1,5 +1,5 @@
 -- The elements that a reading meets, on any memory: each has a key below 2^48 and a slot of the pool, whatever the span. Assumes nothing.
-use mathlib.Core.List.{List, [], _∷_, _++_}
+use mathlib.Core.List.{List}
 use mathlib.Core.Path.{_≡_, refl}
 use Prim.Native.Nat.{ℕ, zero, suc, _+_, _-_, _<_, _≤_}
 use native.Mathlib.Omega.{arith}
@@ -15,22 +15,18 @@ use Rattle.pool.specs.declared.Record.{Record}
 use Rattle.pool.specs.declared.Record.the-variants.{Good, Broken}
 use Rattle.pool.specs.declared.Slot.{Slot}
 use Rattle.pool.specs.declared.Slot.the-variants.{Null, Data, Child, Broken as BrokenSlot}
+use Rattle.walk.proofs.Elements.{Each, each-both}
 use Rattle.walk.proofs.Readings.{last-within}
 use Rattle.walk.specs.Events.{firstIn, lastIn, countIn, inSlot, inSlots, inRecord, tooLong, eventsAt, eventsOf}
 use Rattle.walk.specs.Moves.{Sound}
 use Rattle.walk.specs.Walks.{longestPath}
 use Rattle.walk.specs.declared.Event.{Event}
-use Rattle.walk.specs.declared.Event.the-variants.{Enter, Element, Damage, End}
 use Rattle.walk.specs.declared.Span.{Span}
 use Rattle.walk.specs.declared.Span.the-variants.{Between, Whole}
 
 -- every element of the events is sound
 abbrev pub AllSound : Mem → List Event → Type 0
-AllSound m [] = Unit
-AllSound m (Enter r n ∷ es) = AllSound m es
-AllSound m (Element q k ∷ es) = Sound m q k × AllSound m es
-AllSound m (Damage c ∷ es) = AllSound m es
-AllSound m (End ∷ es) = AllSound m es
+AllSound m es = Each (Sound m) es
 
 first-within : (m : Model) (s : Span) → InRange m → firstIn s m < m .l
 unfolding firstIn
@@ -38,13 +34,6 @@ first-within m (Between u v) r = slot-under m r u
 first-within m Whole r = omega arith
 
 module _ (m : Mem) where
-  sound-both : (es fs : List Event) → AllSound m es → AllSound m fs → AllSound m (es ++ fs)
-  sound-both [] fs a b = b
-  sound-both (Enter r n ∷ es) fs a b = sound-both es fs a b
-  sound-both (Element q k ∷ es) fs a b = (a .0, sound-both es fs (a .1) b)
-  sound-both (Damage c ∷ es) fs a b = sound-both es fs a b
-  sound-both (End ∷ es) fs a b = sound-both es fs a b
-
   -- below a child all is sound
   module _ (deeper : ℕ → List Event) (below : (c : ℕ) → AllSound m (deeper c)) where
     slot-sound : (n : Node) (j : ℕ) → n .start + j + 1 ≤ slotsIn (m .slots) → (x : Slot) → slotAt (m .slots) n j ≡ x → AllSound m (inSlot deeper (n .start + j) x)
@@ -58,7 +47,7 @@ module _ (m : Mem) where
     unfolding inSlots
     slots-sound n zero j h = tt
     slots-sound n (suc count) j h =
-        sound-both (inSlot deeper (n .start + j) (slotAt (m .slots) n j)) _ (slot-sound n j (omega arith) (slotAt (m .slots) n j) refl) (slots-sound n count (j + 1) (omega arith))
+        each-both (Sound m) (inSlot deeper (n .start + j) (slotAt (m .slots) n j)) _ (slot-sound n j (omega arith) (slotAt (m .slots) n j) refl) (slots-sound n count (j + 1) (omega arith))
 
     record-sound : (s : Span) (r : ℕ) (x : Record) → nodeAt m r ≡ x → AllSound m (inRecord s deeper m r x)
     unfolding inRecord countIn

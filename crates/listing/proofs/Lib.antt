@@ -4,4 +4,5 @@ pub mod Halves
 pub mod Keys
 pub mod Landings
 pub mod Listings
+pub mod Places
 pub mod Writes

@@ -1,4 +1,5 @@
 pub mod AfterStores
+pub mod Growth
 pub mod Nodes
 pub mod RecordStores
 pub mod RunStores

@@ -1,3 +1,5 @@
+pub mod Elements
+pub mod Grown
 pub mod Paths
 pub mod Readings
 pub mod Siftings
