@@ -26,7 +26,7 @@ use Rattle.laws.specs.Pick.{pick}
 use Rattle.pool.specs.Memory.{Mem}
 use Rattle.rebuild.proofs.Gathering.{with-few}
 use Rattle.rebuild.specs.Pairs.{pairIf}
-use Rattle.rebuild.specs.Rebuilding.{soundBelow, keysWith, Scratch, scratch, wiped, rebuildOf}
+use Rattle.rebuild.specs.Rebuilding.{soundBelow, keysWith, Scratch, scratch, wiped, rebuildOver, rebuildOf}
 use Rattle.store.proofs.Fitting.{fits-given}
 use Rattle.store.specs.Handles.{handleFits}
 use Rattle.store.specs.declared.Handle.{Handle}
@@ -59,15 +59,15 @@ module _ (h : Handle) (f : Fresh) (i q c : ℕ) where
   ends-done (At r) m s = refl
   ends-done Roomless m s = refl
 
-  tidy-done : (m : Mem) (s : Scratch) → tidyOf h f i q c m s .answer .number ≡ 0
+  tidy-done : (before m : Mem) (s : Scratch) → tidyOf h f i q c before m s .answer .number ≡ 0
   unfolding tidyOf standing
-  tidy-done m s = pick-in (λ (x : Insert). x .answer .number ≡ 0) (ltb i (length (f .path))) _ _ (ends-done _ _ _) refl
+  tidy-done before m s = pick-in (λ (x : Insert). x .answer .number ≡ 0) (ltb i (length (f .path))) _ _ (ends-done _ _ _) refl
 
 -- the causes of an insert, from the end of its path on
 module _ (h : Handle) (m : Mem) (s : Scratch) where
   pair-order : (f : Fresh) (i q : ℕ) (b : Built) (m′ : Mem) → GoesBy (refuse noRoom (isRoomless b) ∷ []) (pairEnds h f i q m s b m′ .answer)
   unfolding pairEnds
-  pair-order f i q (At c) m′ = skip _ _ _ _ (none-holds _ (tidy-done h f i q c m′ s))
+  pair-order f i q (At c) m′ = skip _ _ _ _ (none-holds _ (tidy-done h f i q c m m′ s))
   pair-order f i q Roomless m′ = at-once _ _ _
 
   settle-order : (f : Fresh) (i : ℕ)
@@ -147,7 +147,7 @@ module _ (h : Handle) (m : Mem) where
   module _ (s : Scratch) where
     pair-keeps : (f : Fresh) (i q : ℕ) (b : Built) (m′ : Mem) → KeepsAll h m (pairEnds h f i q m s b m′)
     unfolding pairEnds
-    pair-keeps f i q (At c) m′ = λ r. absurd (r (tidy-done h f i q c m′ s))
+    pair-keeps f i q (At c) m′ = λ r. absurd (r (tidy-done h f i q c m m′ s))
     pair-keeps f i q Roomless m′ = λ r. (refl, refl)
 
     settle-keeps : (f : Fresh) → KeepsAll h m (settleOf h f m s)
@@ -202,24 +202,24 @@ module _ (h : Handle) (s : Scratch) where
   ends-wipe f i q c n (At r) m = wipes false n s _ refl refl
   ends-wipe f i q c n Roomless m = wipes false n s _ refl refl
 
-  tidy-wipes : (f : Fresh) (i q c : ℕ) (m : Mem) → Wipes false (length (keysWith (h .capacity) (f .key) i (getD (f .path) i 0) m)) s (tidyOf h f i q c m s)
-  unfolding tidyOf standing rebuildOf
-  tidy-wipes f i q c m =
-      pick-in (Wipes false (length (keysWith (h .capacity) (f .key) i (getD (f .path) i 0) m)) s) (ltb i (length (f .path))) _ _
-      (ends-wipe f i q c _ _ _) (wipes-not false _ s _ refl refl)
-
   module _ (m : Mem) where
-    pair-wipes : (f : Fresh) (i q : ℕ) (b : Built) (m′ : Mem) → Wipes false (length (keysWith (h .capacity) (f .key) i (getD (f .path) i 0) m′)) s (pairEnds h f i q m s b m′)
+    abbrev liveKeys : Fresh → ℕ → ℕ
+    liveKeys f i = length (keysWith (h .capacity) (f .key) i (getD (f .path) i 0) m)
+
+    tidy-wipes : (f : Fresh) (i q c : ℕ) (m′ : Mem) → Wipes false (liveKeys f i) s (tidyOf h f i q c m m′ s)
+    unfolding tidyOf standing rebuildOver
+    tidy-wipes f i q c m′ =
+        pick-in (Wipes false (liveKeys f i) s) (ltb i (length (f .path))) _ _ (ends-wipe f i q c _ _ _) (wipes-not false _ s _ refl refl)
+
+    pair-wipes : (f : Fresh) (i q : ℕ) (b : Built) (m′ : Mem) → Wipes false (liveKeys f i) s (pairEnds h f i q m s b m′)
     unfolding pairEnds
     pair-wipes f i q (At c) m′ = tidy-wipes f i q c m′
     pair-wipes f i q Roomless m′ = wipes-not false _ s _ refl refl
 
-    settle-wipes : (f : Fresh) (i : ℕ)
-        → Wipes false (length (keysWith (h .capacity) (f .key) i (getD (f .path) i 0) (pairIf (f .conflict) (f .key) (f .payload) (f .other) (heldPayload f m) m .memory))) s (settleAt h f i m s)
+    settle-wipes : (f : Fresh) (i : ℕ) → Wipes false (liveKeys f i) s (settleAt h f i m s)
     unfolding settleAt
     settle-wipes f i =
-        pick-in (Wipes false (length (keysWith (h .capacity) (f .key) i (getD (f .path) i 0) (pairIf (f .conflict) (f .key) (f .payload) (f .other) (heldPayload f m) m .memory))) s)
-        (soundDue (h .capacity) (f .key) (f .path) i m) _ _ (pair-wipes f i _ _ _) (wipes-not false _ s _ refl refl)
+        pick-in (Wipes false (liveKeys f i) s) (soundDue (h .capacity) (f .key) (f .path) i m) _ _ (pair-wipes f i _ _ _) (wipes-not false _ s _ refl refl)
 
     whole-ends-wipe : (n : ℕ) (b : Built) (m′ : Mem) → Wipes true n s (wholeEnds h m b m′ (wiped n s))
     unfolding wholeEnds
@@ -228,7 +228,7 @@ module _ (h : Handle) (s : Scratch) where
 
     module _ (k p : ℕ) where
       whole-wipes : Wipes true (length (keysWith (h .capacity) k 0 (h .root) m)) s (wholeOf h k p m s)
-      unfolding wholeOf rebuildOf
+      unfolding wholeOf rebuildOf rebuildOver
       whole-wipes =
           pick-in (Wipes true (length (keysWith (h .capacity) k 0 (h .root) m)) s) (soundBelow (h .capacity) k 0 (h .root) m) _ _
           (whole-ends-wipe _ _ _) (wipes-not true _ s _ refl refl)
@@ -239,7 +239,7 @@ module _ (h : Handle) (s : Scratch) where
 
       module _ (path : List ℕ) (root : getD path 0 0 ≡ h .root) where
         conflict-wipes : (q j : ℕ)
-            → Wipes (tooDeep (walk (Key q j) path)) (triedOver h k p m (walk (Key q j) path)) s
+            → Wipes (tooDeep (walk (Key q j) path)) (triedOver h k m (walk (Key q j) path)) s
             (pick (ltb (length path) longestPath) (settleOf h (fresh k p q true j path) m s) (wholeOf h k p m s))
         unfolding settleOf pairIf
         conflict-wipes q j =
@@ -247,19 +247,19 @@ module _ (h : Handle) (s : Scratch) where
             (λ l. rw (l, le-ltb (length path) longestPath (leb-true longestPath (length path) l), root) whole-wipes)
             (λ l. rw (l, lt-ltb (length path) longestPath (leb-false longestPath (length path) l)) (settle-wipes (fresh k p q true j path) (dueIn (m .nodes) true path)))
 
-        end-wipes : (x : End) → Wipes (tooDeep (walk x path)) (triedOver h k p m (walk x path)) s (insertEnd h k p m s path x)
+        end-wipes : (x : End) → Wipes (tooDeep (walk x path)) (triedOver h k m (walk x path)) s (insertEnd h k p m s path x)
         unfolding insertEnd settleOf pairIf
         end-wipes (Damage c) = wipes-not _ _ s _ refl refl
         end-wipes (Empty q) = full-wipes _ _ _ (settle-wipes (fresh k p q false 0 path) (dueIn (m .nodes) false path))
         end-wipes (Key q j) =
-            pick-in (Wipes (tooDeep (walk (Key q j) path)) (triedOver h k p m (walk (Key q j) path)) s) (eqb j k) _ _
+            pick-in (Wipes (tooDeep (walk (Key q j) path)) (triedOver h k m (walk (Key q j) path)) s) (eqb j k) _ _
             (wipes-not _ _ s _ refl refl) (full-wipes _ _ _ (conflict-wipes q j))
 
-      insert-wipes : Wipes (tooDeep (pathTo h k m)) (triedOver h k p m (pathTo h k m)) s (insertOf h k p m s)
+      insert-wipes : Wipes (tooDeep (pathTo h k m)) (triedOver h k m (pathTo h k m)) s (insertOf h k p m s)
       unfolding insertOf
       insert-wipes =
-          pick-in (Wipes (tooDeep (pathTo h k m)) (triedOver h k p m (pathTo h k m)) s) (handleFits h m && scratchFits (h .capacity) s) _ _
-          (pick-in (Wipes (tooDeep (pathTo h k m)) (triedOver h k p m (pathTo h k m)) s) (ltb k keyBound) _ _
+          pick-in (Wipes (tooDeep (pathTo h k m)) (triedOver h k m (pathTo h k m)) s) (handleFits h m && scratchFits (h .capacity) s) _ _
+          (pick-in (Wipes (tooDeep (pathTo h k m)) (triedOver h k m (pathTo h k m)) s) (ltb k keyBound) _ _
           (end-wipes (pathTo h k m .path) (root-first m k (h .root)) (pathTo h k m .end)) (wipes-not _ _ s _ refl refl))
           (wipes-not _ _ s _ refl refl)
 
@@ -282,12 +282,12 @@ module _ (h : Handle) (k p : ℕ) (m : Mem) (s : Scratch) where
   unfolding insertOf
   sizes f = rw f
 
-  pub insert-rebuilt : tried (pathTo h k m) (insertOf h k p m s .answer) ≡ true → insertOf h k p m s .scratch ≡ zeroed (triedOver h k p m (pathTo h k m)) s
+  pub insert-rebuilt : tried (pathTo h k m) (insertOf h k p m s .answer) ≡ true → insertOf h k p m s .scratch ≡ zeroed (triedOver h k m (pathTo h k m)) s
   insert-rebuilt e =
       both (handleFits h m && scratchFits (h .capacity) s)
       (λ f.
       let g = and-both (handleFits h m) (scratchFits (h .capacity) s) f in
       let c = scratch-given (h .capacity) (s .keys) (s .payloads) (s .places) (g .1) in
-      let n : triedOver h k p m (pathTo h k m) ≤ h .capacity = with-few (h .capacity) k _ _ _ (fits-given h m (g .0) .limits .capacity-least) in
-      insert-wipes h s m k p .rebuilt e ∙ wiped-zeroed (triedOver h k p m (pathTo h k m)) s (omega (arith, c .0)) (c .1) (c .2))
+      let n : triedOver h k m (pathTo h k m) ≤ h .capacity = with-few (h .capacity) k _ _ _ (fits-given h m (g .0) .limits .capacity-least) in
+      insert-wipes h s m k p .rebuilt e ∙ wiped-zeroed (triedOver h k m (pathTo h k m)) s (omega (arith, c .0)) (c .1) (c .2))
       (λ f. absurd (true-not-false (sym e ∙ sizes f)))

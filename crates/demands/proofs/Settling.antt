@@ -4,14 +4,14 @@ use mathlib.Core.List.{List, [], _∷_, _++_}
 use mathlib.Core.Logic.{⊎-elim}
 use mathlib.Core.Path.{_≡_, refl, sym, subst, subst⁻¹, ap, _∙_}
 use native.Mathlib.Omega.{arith}
-use Prim.Native.Nat.{ℕ, _+_, _<_, _≤_}
+use Prim.Native.Nat.{ℕ, _<_, _≤_}
 use lib.Dec.{eqb, ltb}
 use lib.ListN.{length, getD}
 use borrow.Author.Tests.{lt-ltb, le-ltb, ltb-true, ltb-false, ne-eqb, eqb-false}
 use Rattle.build.specs.Building.{Out, out, build}
 use Rattle.build.specs.Releasing.{release}
 use Rattle.counters.specs.Counters.{dueIn}
-use Rattle.insert.specs.Inserting.{Insert, insertion, Fresh, fresh, settled, slotAbove, tidyBy, tidyOf, pairEnds, heldPayload, soundDue, settleAt as settleAtOf, settleOf, wholeEnds, wholeBy, wholeOf, unlessFull as unlessFullOf, insertEnd as insertEndOf, insertOf, notDue}
+use Rattle.insert.specs.Inserting.{Insert, insertion, Fresh, fresh, settled, slotAbove, tidyBy, rebuildAt, tidyOf, pairEnds, heldPayload, soundDue, settleAt as settleAtOf, settleOf, wholeEnds, wholeBy, wholeOf, unlessFull as unlessFullOf, insertEnd as insertEndOf, insertOf, notDue}
 use Rattle.laws.proofs.Tests.{both, and-true, le-or-lt}
 use Rattle.laws.specs.Answers.{refused}
 use Rattle.laws.specs.Keys.{keyBound}
@@ -21,32 +21,31 @@ use Rattle.model.specs.Height.{height}
 use Rattle.pool.specs.Memory.{Mem}
 use Rattle.pool.specs.Writing.{putData, putChild}
 use Rattle.rebuild.specs.Pairs.{pairOf, pairIf, pairGone}
-use Rattle.rebuild.specs.Rebuilding.{afresh, swapped, swap, inPlace, Scratch, rebuildOf, soundBelow}
+use Rattle.rebuild.specs.Rebuilding.{afresh, swapped, swap, inPlace, Scratch, rebuildOver, rebuildOf, soundBelow}
 use Rattle.store.proofs.Fitting.{Limits, fits-given}
 use Rattle.store.specs.declared.Handle.{Handle}
 use Rattle.walk.specs.Walks.{longestPath}
 use Rattle.demands.specs.Demand2.{InsertLeaves, InsertAnswers}
 use Rattle.demands.specs.Growing.{Grown, is, noRoom}
-use Rattle.demands.specs.Map.{Map, EachKey, Rises, insert, member, size, keysOf, payloadsOf}
+use Rattle.demands.specs.Map.{Map, EachKey, Rises, insert, member, keysOf, payloadsOf}
 use Rattle.demands.specs.Paths.{pathB, belowB}
-use Rattle.demands.specs.Placed.{Head, Branch, null, leaf, sub, Forest, cons, app, flatB, flatF, depthB, Frame, plug, Follows, preC, postC, Good}
+use Rattle.demands.specs.Placed.{Head, Branch, null, leaf, sub, Forest, flatB, flatF, depthB, Frame, plug, Follows, Good}
 use Rattle.demands.specs.Settling.{Settled, dueB, growOver, within, tidies, settleAt, settle, settlePair, whole, unlessFull, insertEnd}
 use Rattle.demands.specs.Stores.{ours}
 use Rattle.demands.proofs.Adding.{Fine, fine-of}
 use Rattle.demands.proofs.Afresh.{insert-all, insert-rises, insert-size, not-member, rising-of, built-agrees, afresh-agrees}
-use Rattle.demands.proofs.Around.{size-app}
 use Rattle.demands.proofs.Bands.{size-keys}
 use Rattle.demands.proofs.Calls.{on, walk-is, member-is}
 use Rattle.demands.proofs.Depths.{grow-height}
 use Rattle.demands.proofs.Frames.{part, plug-app, follows-left, records-at, due-plug, due-in, above-is}
-use Rattle.demands.proofs.Grafting.{holds-end, okay-end, root-kept, adds-end, drops-end, holds-added}
+use Rattle.demands.proofs.Grafting.{okay-end, root-kept, adds-end, drops-end, holds-added}
 use Rattle.demands.proofs.Growing.{Agrees, BuiltAs}
 use Rattle.demands.proofs.Live.{LiveIn, keys-B, sound-below, keys-gathered, payloads-gathered}
-use Rattle.demands.proofs.Plugs.{End, flat-plug, all-left, all-right, rises-B, deep-in}
+use Rattle.demands.proofs.Plugs.{End, rises-B, deep-in}
 use Rattle.demands.proofs.Raising.{heads-in}
 use Rattle.demands.proofs.Reading.{Holds}
 use Rattle.demands.proofs.Removing.{release-removed}
-use Rattle.demands.proofs.Standing.{Site, Taker, Above, stands-leaves, tidies-leaves, good-more}
+use Rattle.demands.proofs.Standing.{Site, Taker, Above, live, stands-leaves, tidies-leaves, good-more}
 use Rattle.demands.proofs.Walking.{Kept, holds-all, placeOf, recordsOn, records-length, endTo, end-slot}
 use Rattle.demands.proofs.Ways.{path-plug, way-path, way-end}
 
@@ -80,37 +79,21 @@ module _ (h : Handle) (m : Mem) (t : Head) (g : Forest) (k p : ℕ) (f : Frame) 
     F = fresh k p (placeOf f c) conflict other (recordsOn fs)
 
     Ends : ℕ → Type 0
-    Ends i = InsertLeaves h m g k p (tidyBy h F i (slotAbove (m .nodes) (recordsOn fs) k i) r (rebuildOf (h .capacity) k p i (getD (recordsOn fs) i 0) m1 z)) (tidies h (sub t g) k p conflict i n (within i (growOver h (m1 .used) (insert k p (flatB (belowB (sub t g) i k))))))
+    Ends i = InsertLeaves h m g k p (tidyBy h F i (slotAbove (m .nodes) (recordsOn fs) k i) r (rebuildAt h F i (getD (recordsOn fs) i 0) m m1 z)) (tidies h (sub t g) k p conflict i n (within i (growOver h (m1 .used) (insert k p (flatB (belowB (sub t g) i k))))))
 
     due-leaves : (i : ℕ) → i < length fs → Ends i
     unfolding Ends
     due-leaves i l =
         let q = part fs i l in
-        subst Ends (q .long) (tidies-leaves h m t g k p f c b s conflict r n m1 a (q .before) (q .here) (q .after) (q .eq) other _ z (above-at (q .before) (q .here) (q .after) (q .eq)))
+        subst Ends (q .long) (tidies-leaves h m t g k p f c b s (q .before) (q .here) (q .after) (q .eq) conflict r n m1 a other _ z (above-at (q .before) (q .here) (q .after) (q .eq)))
 
-    pub tidy-leaves : (i : ℕ) → InsertLeaves h m g k p (tidyOf h F i (slotAbove (m .nodes) (recordsOn fs) k i) r m1 z) (settleAt h (sub t g) k p conflict i n (m1 .used))
+    pub tidy-leaves : (i : ℕ) → InsertLeaves h m g k p (tidyOf h F i (slotAbove (m .nodes) (recordsOn fs) k i) r m m1 z) (settleAt h (sub t g) k p conflict i n (m1 .used))
     unfolding tidyOf Ends
     tidy-leaves i =
         let same : ltb i (length (pathB k (sub t g))) ≡ ltb i (length (recordsOn fs)) = ap (λ (x : List ℕ). ltb i (length x)) path-is in
         both (ltb i (length (recordsOn fs)))
         (λ e. rw (e, same ∙ e) (due-leaves i (subst (λ (x : ℕ). i < x) (records-length fs) (ltb-true i (length (recordsOn fs)) e))))
         (λ e. rw (e, same ∙ e) (stands-leaves h m t g k p f c b s conflict r n m1 a other notDue z))
-
-  -- the subtree of a due node, in the memory given
-  live : (fore : List Frame) (here : Frame) (aft : List Frame) → fs ≡ fore ++ (here ∷ aft) → LiveIn R S m (h .capacity) k (length fore) (here .head) (app (here .left) (cons (plug aft b) (here .right)))
-  live fore here aft e =
-      let old : Branch = plug (here ∷ aft) b in
-      let tp : plug fs b ≡ plug fore old = ap (λ (x : List Frame). plug x b) e ∙ plug-app fore (here ∷ aft) b in
-      let kp : Kept R S m (plug fore old) = subst (Kept R S m) tp (s .kept) in
-      let fl = ap flatB (s .eq ∙ tp) ∙ flat-plug fore old in
-      record {
-        sized = kp .sized;
-        okay = okay-end R S fore old (kp .okay);
-        holds = holds-end R m fore old (holds-all R S m _ kp);
-        deep = omega (arith, deep-in fore old, kp .deep);
-        room = omega (arith, ap size fl, size-app (preC fore) (flatB old ++ postC fore), size-app (flatB old) (postC fore), s .count, s .space);
-        fresh = all-left (λ x. x ≡ k → ⊥) (flatB old) (postC fore) (all-right (λ x. x ≡ k → ⊥) (preC fore) (flatB old ++ postC fore) (subst (EachKey (λ x. x ≡ k → ⊥)) fl (s .absent)));
-      }
 
   sound-at : (i : ℕ) → soundDue (h .capacity) k (recordsOn fs) i m ≡ true
   unfolding soundDue
@@ -121,7 +104,7 @@ module _ (h : Handle) (m : Mem) (t : Head) (g : Forest) (k p : ℕ) (f : Frame) 
           let q = part fs i l in
           let top : getD (recordsOn fs) (length (q .before)) 0 ≡ q .here .head .at = ap (λ (x : List Frame). getD (recordsOn x) (length (q .before)) 0) (q .eq) ∙ records-at (q .before) (q .after) (q .here) in
           subst (λ (j : ℕ). soundBelow (h .capacity) k j (getD (recordsOn fs) j 0) m ≡ true) (q .long)
-          (ap (λ (x : ℕ). soundBelow (h .capacity) k (length (q .before)) x m) top ∙ sound-below R S m (h .capacity) k (length (q .before)) (q .here .head) _ (live (q .before) (q .here) (q .after) (q .eq)))
+          (ap (λ (x : ℕ). soundBelow (h .capacity) k (length (q .before)) x m) top ∙ sound-below R S m (h .capacity) k (length (q .before)) (q .here .head) _ (live h m t g k p f c b s (q .before) (q .here) (q .after) (q .eq)))
 
   due-is : (conflict : Bool) → dueIn (m .nodes) conflict (recordsOn fs) ≡ dueB conflict k (sub t g)
   due-is conflict =
@@ -210,7 +193,7 @@ module _ (h : Handle) (m : Mem) (t : Head) (g : Forest) (k p : ℕ) (f : Frame) 
   pair-ends x (is null u) e a = absurd a
   pair-ends x (is (leaf l v) u) e a = absurd a
   pair-ends x (is (sub t′ g′) u) e a =
-      rw (a .0) (subst (λ (y : List ℕ). InsertLeaves h m g k p (tidyOf h G i (slotAbove (m .nodes) (recordsOn (f ∷ c)) k i) (t′ .at) (x .memory) z) (settleAt h (sub t g) k p true i (sub t′ g′) y)) (a .1)
+      rw (a .0) (subst (λ (y : List ℕ). InsertLeaves h m g k p (tidyOf h G i (slotAbove (m .nodes) (recordsOn (f ∷ c)) k i) (t′ .at) m (x .memory) z) (settleAt h (sub t g) k p true i (sub t′ g′) y)) (a .1)
       (tidy-leaves h m t g k p f c (leaf j q) s true (t′ .at) (sub t′ g′) (x .memory) (pair-taker x t′ g′ (pair-flat h m k p j q fine0 (s .key) jb ne (sub t′ g′) u e) (a .2)) j z i))
   pair-ends x noRoom e a = rw a (refl, refl, refl)
 
@@ -254,7 +237,7 @@ module _ (h : Handle) (m : Mem) (t : Head) (g : Forest) (k p : ℕ) (f : Frame) 
       afresh-agrees RR SS m (fine-of RR SS m _ kept0) L (insert-rises k p (flatF g) (rises-B RR SS (sub t g) (kept0 .okay))) (insert-all k p (λ x. x < keyBound) (s .key) (flatF g) (keys-B RR SS (sub t g) (kept0 .okay))) 0
 
   gathered0 : rebuildOf (h .capacity) k p 0 (t .at) m z .out ≡ swap (t .at) m (afresh 0 (keysOf L) (payloadsOf L) m)
-  unfolding rebuildOf inPlace live0
+  unfolding rebuildOf rebuildOver inPlace live0
   gathered0 = rw (keys-gathered RR SS m (h .capacity) k 0 t g live0 p, payloads-gathered RR SS m (h .capacity) k 0 t g live0 p)
 
   whole-ends : (x : Out) (y : Scratch) (w : Grown) → Agrees RR SS longestPath m L w x → InsertLeaves h m g k p (wholeEnds h m (swap (t .at) m x .built) (swap (t .at) m x .memory) y) (whole w)

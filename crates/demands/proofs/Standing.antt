@@ -10,13 +10,13 @@ use lib.ListN.{length, getD, take}
 use Rattle.build.specs.Building.{Out, out}
 use Rattle.build.specs.Releasing.{release}
 use Rattle.counters.specs.Counters.{raise}
-use Rattle.insert.specs.Inserting.{Fresh, fresh, settled, standing, hung, rootAt, replaced, tidyEnds, tidyBy, oneMoreAt, putOff, tidied, asNumber}
+use Rattle.insert.specs.Inserting.{Fresh, fresh, settled, standing, hung, rootAt, replaced, tidyEnds, tidyBy, rebuildAt, oneMoreAt, putOff, tidied, asNumber}
 use Rattle.laws.proofs.Tests.{le-or-lt}
 use Rattle.laws.specs.Keys.{keyBound}
 use Rattle.pool.specs.Memory.{Mem, mem}
 use Rattle.pool.specs.Writing.{putChild}
 use Rattle.rebuild.specs.Pairs.{pairGone}
-use Rattle.rebuild.specs.Rebuilding.{afresh, swapped, swap, inPlace, Scratch, rebuildOf}
+use Rattle.rebuild.specs.Rebuilding.{afresh, swapped, swap, inPlace, Scratch, rebuildOver}
 use Rattle.store.proofs.Fitting.{Limits}
 use Rattle.store.specs.declared.Handle.{Handle}
 use Rattle.walk.specs.Walks.{longestPath}
@@ -165,80 +165,86 @@ module _ (h : Handle) (m : Mem) (t : Head) (g : Forest) (k p : ℕ) (f : Frame) 
           more-elements fs b n (s .eq) (s .follows) (s .kept .okay) (a .flat) conflict,
         )
 
-    -- The node at place i of the path is built afresh: `fore` are the frames above it, `here` its own, `aft` those below it.
-    module _ (fore : List Frame) (here : Frame) (aft : List Frame) (parts : fs ≡ fore ++ (here ∷ aft)) where
-      abbrev i : ℕ
-      i = length fore
+  -- A node on the path, at place i: `fore` are the frames above it, `here` its own, `aft` those below it.
+  module _ (fore : List Frame) (here : Frame) (aft : List Frame) (parts : fs ≡ fore ++ (here ∷ aft)) where
+    abbrev i : ℕ
+    i = length fore
 
-      abbrev oldRun : Forest
-      oldRun = app (here .left) (cons (plug aft b) (here .right))
+    abbrev oldRun : Forest
+    oldRun = app (here .left) (cons (plug aft b) (here .right))
 
-      abbrev old : Branch
-      old = sub (here .head) oldRun
+    abbrev old : Branch
+    old = sub (here .head) oldRun
 
-      tree-parts : plug fs b ≡ plug fore old
-      tree-parts = ap (λ (x : List Frame). plug x b) parts ∙ plug-app fore (here ∷ aft) b
+    tree-parts : plug fs b ≡ plug fore old
+    tree-parts = ap (λ (x : List Frame). plug x b) parts ∙ plug-app fore (here ∷ aft) b
 
-      whole-parts : sub t g ≡ plug fore old
-      whole-parts = s .eq ∙ tree-parts
+    whole-parts : sub t g ≡ plug fore old
+    whole-parts = s .eq ∙ tree-parts
 
-      kept-parts : Kept R S m (plug fore old)
-      kept-parts = subst (Kept R S m) tree-parts (s .kept)
+    kept-parts : Kept R S m (plug fore old)
+    kept-parts = subst (Kept R S m) tree-parts (s .kept)
 
-      follows-all : Follows k (fore ++ (here ∷ aft))
-      follows-all = subst (Follows k) parts (s .follows)
+    follows-all : Follows k (fore ++ (here ∷ aft))
+    follows-all = subst (Follows k) parts (s .follows)
 
-      follows-fore : Follows k fore
-      follows-fore = follows-left k fore (here ∷ aft) follows-all
+    follows-fore : Follows k fore
+    follows-fore = follows-left k fore (here ∷ aft) follows-all
 
-      okay-old : OkB R S old
-      okay-old = okay-end R S fore old (kept-parts .okay)
+    okay-old : OkB R S old
+    okay-old = okay-end R S fore old (kept-parts .okay)
 
-      holds-old : Holds R m old
-      holds-old = holds-end R m fore old (holds-all R S m _ kept-parts)
+    holds-old : Holds R m old
+    holds-old = holds-end R m fore old (holds-all R S m _ kept-parts)
 
-      below-is : belowB (sub t g) i k ≡ old
-      below-is = ap (λ (x : Branch). belowB x i k) whole-parts ∙ below-plug k fore old follows-fore
+    below-is : belowB (sub t g) i k ≡ old
+    below-is = ap (λ (x : Branch). belowB x i k) whole-parts ∙ below-plug k fore old follows-fore
 
-      flat-parts : flatF g ≡ preC fore ++ (flatB old ++ postC fore)
-      flat-parts = ap flatB whole-parts ∙ flat-plug fore old
+    flat-parts : flatF g ≡ preC fore ++ (flatB old ++ postC fore)
+    flat-parts = ap flatB whole-parts ∙ flat-plug fore old
 
-      absent-old : EachKey (λ x. x ≡ k → ⊥) (flatB old)
-      absent-old =
-          all-left (λ x. x ≡ k → ⊥) (flatB old) (postC fore) (all-right (λ x. x ≡ k → ⊥) (preC fore) (flatB old ++ postC fore) (subst (EachKey (λ x. x ≡ k → ⊥)) flat-parts (s .absent)))
+    absent-old : EachKey (λ x. x ≡ k → ⊥) (flatB old)
+    absent-old =
+        all-left (λ x. x ≡ k → ⊥) (flatB old) (postC fore) (all-right (λ x. x ≡ k → ⊥) (preC fore) (flatB old ++ postC fore) (subst (EachKey (λ x. x ≡ k → ⊥)) flat-parts (s .absent)))
 
-      size-old : size (flatB old) ≤ size (flatF g)
-      size-old = omega (arith, ap size flat-parts, size-app (preC fore) (flatB old ++ postC fore), size-app (flatB old) (postC fore))
+    size-old : size (flatB old) ≤ size (flatF g)
+    size-old = omega (arith, ap size flat-parts, size-app (preC fore) (flatB old ++ postC fore), size-app (flatB old) (postC fore))
 
-      deep-old : i + depthB old ≤ longestPath
-      deep-old = omega (arith, deep-in fore old, kept-parts .deep)
+    deep-old : i + depthB old ≤ longestPath
+    deep-old = omega (arith, deep-in fore old, kept-parts .deep)
 
-      live : LiveIn R S m1 (h .capacity) k i (here .head) oldRun
-      live = record {
-        sized = a .adds .fine .sized;
-        okay = okay-old;
-        holds = holds-added R S m m1 old n holds-old (a .adds);
-        deep = omega (arith, deep-old);
-        room = omega (arith, size-old, s .count, s .space);
-        fresh = absent-old;
-      }
+    -- the node's subtree, in the memory given
+    pub live : LiveIn R S m (h .capacity) k i (here .head) oldRun
+    live = record {
+      sized = kept-parts .sized;
+      okay = okay-old;
+      holds = holds-old;
+      deep = omega (arith, deep-old);
+      room = omega (arith, size-old, s .count, s .space);
+      fresh = absent-old;
+    }
 
-      abbrev L : Map
-      L = insert k p (flatB old)
+    abbrev L : Map
+    L = insert k p (flatB old)
 
-      rises-L : Rises L
-      rises-L = insert-rises k p (flatB old) (rises-B R S old okay-old)
+    rises-L : Rises L
+    rises-L = insert-rises k p (flatB old) (rises-B R S old okay-old)
 
-      keys-L : EachKey (λ x. x < keyBound) L
-      keys-L = insert-all k p (λ x. x < keyBound) (s .key) (flatB old) (keys-B R S old okay-old)
+    keys-L : EachKey (λ x. x < keyBound) L
+    keys-L = insert-all k p (λ x. x < keyBound) (s .key) (flatB old) (keys-B R S old okay-old)
 
+    -- it is built afresh, once the slot has its taker
+    module _ (conflict : Bool) (r : ℕ) (n : Branch) (m1 : Mem) (a : Taker h m k p f c b conflict r n m1) where
       agrees : Agrees R S longestPath m1 L (within i (growOver h (m1 .used) L)) (afresh i (keysOf L) (payloadsOf L) m1)
       agrees = afresh-agrees R S m1 (a .adds .fine) L rises-L keys-L i
 
-      -- what the code builds over
-      gathered : (z : Scratch) → rebuildOf (h .capacity) k p i (here .head .at) m1 z .out ≡ swap (here .head .at) m1 (afresh i (keysOf L) (payloadsOf L) m1)
-      unfolding rebuildOf inPlace live
-      gathered z = rw (keys-gathered R S m1 (h .capacity) k i (here .head) oldRun live p, payloads-gathered R S m1 (h .capacity) k i (here .head) oldRun live p)
+      abbrev F : ℕ → Fresh
+      F other = fresh k p (placeOf f c) conflict other (recordsOn fs)
+
+      -- what is built over: the keys of the memory given
+      gathered : (other : ℕ) (z : Scratch) → rebuildAt h (F other) i (here .head .at) m m1 z .out ≡ swap (here .head .at) m1 (afresh i (keysOf L) (payloadsOf L) m1)
+      unfolding rebuildOver inPlace live
+      gathered other z = rw (keys-gathered R S m (h .capacity) k i (here .head) oldRun live p, payloads-gathered R S m (h .capacity) k i (here .head) oldRun live p)
 
       path-fore : take i (recordsOn fs) ≡ recordsOn fore
       path-fore = ap (λ (x : List Frame). take i (recordsOn x)) parts ∙ records-before fore (here ∷ aft)
@@ -298,9 +304,6 @@ module _ (h : Handle) (m : Mem) (t : Head) (g : Forest) (k p : ℕ) (f : Frame) 
       top-is : getD (recordsOn fs) i 0 ≡ here .head .at
       top-is = ap (λ (x : List Frame). getD (recordsOn x) i 0) parts ∙ records-at fore aft here
 
-      abbrev F : ℕ → Fresh
-      F other = fresh k p (placeOf f c) conflict other (recordsOn fs)
-
       -- done or put off
       ends : (other q : ℕ) (y : Scratch) (x : Out) (w : Grown) → Above fore q → within i (growOver h (m1 .used) L) ≡ w → Agrees R S longestPath m1 L w x
           → InsertLeaves h m g k p (tidyEnds h (F other) i q r (swap (here .head .at) m1 x .built) (swap (here .head .at) m1 x .memory) y) (tidies h (sub t g) k p conflict i n w)
@@ -308,12 +311,12 @@ module _ (h : Handle) (m : Mem) (t : Head) (g : Forest) (k p : ℕ) (f : Frame) 
       ends other q y x (is null u) ab e j = absurd j
       ends other q y x (is (leaf l v) u) ab e j = absurd j
       ends other q y x (is (sub t′ g′) u) ab e j = rw (j .0) (replaced-leaves (x .memory) t′ g′ u (j .2) (within-deep i (growOver h (m1 .used) L) (sub t′ g′) u e) other q y ab)
-      ends other q y x noRoom ab e j = rw j (stands-leaves other putOff y)
+      ends other q y x noRoom ab e j = rw j (stands-leaves conflict r n m1 a other putOff y)
 
       pub tidies-leaves : (other q : ℕ) (z : Scratch) → Above fore q
-          → InsertLeaves h m g k p (tidyBy h (F other) i q r (rebuildOf (h .capacity) k p i (getD (recordsOn fs) i 0) m1 z)) (tidies h (sub t g) k p conflict i n (within i (growOver h (m1 .used) (insert k p (flatB (belowB (sub t g) i k))))))
+          → InsertLeaves h m g k p (tidyBy h (F other) i q r (rebuildAt h (F other) i (getD (recordsOn fs) i 0) m m1 z)) (tidies h (sub t g) k p conflict i n (within i (growOver h (m1 .used) (insert k p (flatB (belowB (sub t g) i k))))))
       tidies-leaves other q z ab =
-          subst⁻¹ (λ (x : ℕ). InsertLeaves h m g k p (tidyBy h (F other) i q r (rebuildOf (h .capacity) k p i x m1 z)) (tidies h (sub t g) k p conflict i n (within i (growOver h (m1 .used) (insert k p (flatB (belowB (sub t g) i k))))))) top-is
-          (subst⁻¹ (λ (x : Branch). InsertLeaves h m g k p (tidyBy h (F other) i q r (rebuildOf (h .capacity) k p i (here .head .at) m1 z)) (tidies h (sub t g) k p conflict i n (within i (growOver h (m1 .used) (insert k p (flatB x)))))) below-is
-          (subst⁻¹ (λ (x : Out). InsertLeaves h m g k p (tidyEnds h (F other) i q r (x .built) (x .memory) (rebuildOf (h .capacity) k p i (here .head .at) m1 z .scratch)) (tidies h (sub t g) k p conflict i n (within i (growOver h (m1 .used) L)))) (gathered z)
-          (ends other q (rebuildOf (h .capacity) k p i (here .head .at) m1 z .scratch) (afresh i (keysOf L) (payloadsOf L) m1) (within i (growOver h (m1 .used) L)) ab refl agrees)))
+          subst⁻¹ (λ (x : ℕ). InsertLeaves h m g k p (tidyBy h (F other) i q r (rebuildAt h (F other) i x m m1 z)) (tidies h (sub t g) k p conflict i n (within i (growOver h (m1 .used) (insert k p (flatB (belowB (sub t g) i k))))))) top-is
+          (subst⁻¹ (λ (x : Branch). InsertLeaves h m g k p (tidyBy h (F other) i q r (rebuildAt h (F other) i (here .head .at) m m1 z)) (tidies h (sub t g) k p conflict i n (within i (growOver h (m1 .used) (insert k p (flatB x)))))) below-is
+          (subst⁻¹ (λ (x : Out). InsertLeaves h m g k p (tidyEnds h (F other) i q r (x .built) (x .memory) (rebuildAt h (F other) i (here .head .at) m m1 z .scratch)) (tidies h (sub t g) k p conflict i n (within i (growOver h (m1 .used) L)))) (gathered other z)
+          (ends other q (rebuildAt h (F other) i (here .head .at) m m1 z .scratch) (afresh i (keysOf L) (payloadsOf L) m1) (within i (growOver h (m1 .used) L)) ab refl agrees)))

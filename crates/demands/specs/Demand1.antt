@@ -13,12 +13,11 @@ use Prim.Native.Nat.{ℕ}
 use lib.Dec.{leb, eqb}
 use lib.IntN.{ℤ}
 use lib.ListN.{length, getD, drop, replicate}
-use Rattle.demands.specs.Refusals.{Cause, GoesBy, OneOf, packCauses, unpackCauses, slotCauses, modelCauses, loadCauses, searchCauses, deleteCauses, bandCauses, insertCauses, pathTo, tooDeep, rebuiltAt, pairAt}
+use Rattle.demands.specs.Refusals.{Cause, GoesBy, OneOf, packCauses, unpackCauses, slotCauses, modelCauses, loadCauses, searchCauses, deleteCauses, bandCauses, insertCauses, pathTo, tooDeep, rebuiltAt}
 use Rattle.desk.specs.Passing.{passSounding, passLoad, passLooked, passChange, passBand, passInsert}
 use Rattle.edge.specs.Passing.{passKey, passSlot, passModel}
 use Rattle.insert.specs.Inserting.{Insert, insertOf}
 use Rattle.laws.specs.Answers.{Answer, noRoom}
-use Rattle.laws.specs.Pick.{pick}
 use Rattle.model.specs.Choice.{modelChoice}
 use Rattle.model.specs.Slots.{slotChoice}
 use Rattle.model.specs.declared.Model.{Model}
@@ -88,10 +87,9 @@ pub record ChangesNothing : Type 0 where
 abbrev pub tried : Walk → Answer ℕ → Bool
 tried w a = eqb (a .number) 0 && leb 1 (getD (a .values) 1 0) || eqb (a .number) noRoom && tooDeep w
 
--- over how many keys: the live ones of the subtree and the new one, read when the two-key node of a conflict has its places
-abbrev pub triedOver : Handle → ℕ → ℕ → Mem → Walk → ℕ
-triedOver h k p m w =
-    length (keysWith (h .capacity) k (rebuiltAt m w) (getD (w .path) (rebuiltAt m w) 0) (pick (tooDeep w) m (pairAt k p m (w .end) .memory)))
+-- over how many keys: the live ones of the subtree to be rebuilt, and the new one
+abbrev pub triedOver : Handle → ℕ → Mem → Walk → ℕ
+triedOver h k m w = length (keysWith (h .capacity) k (rebuiltAt m w) (getD (w .path) (rebuiltAt m w) 0) m)
 
 -- "the first m scratch places zero, the rest untouched"
 abbrev pub zeros : ℕ → List ℕ → List ℕ
@@ -103,7 +101,7 @@ zeroed n s = scratch (zeros n (s .keys)) (zeros n (s .payloads)) (zeros n (s .pl
 pub record ScratchAsSaid : Type 0 where
   -- "A rebuild tried over m keys, done, put off or refused with 8, leaves the first m scratch places zero, the rest untouched."
   pub rebuilt : (h : Handle) (key payload : ℕ) (m : Mem) (s : Scratch) → tried (pathTo h key m) (insertOf h key payload m s .answer) ≡ true
-      → insertOf h key payload m s .scratch ≡ zeroed (triedOver h key payload m (pathTo h key m)) s
+      → insertOf h key payload m s .scratch ≡ zeroed (triedOver h key m (pathTo h key m)) s
   -- "Nothing else touches scratch, an 8 for the two-key node included."
   pub untouched : (h : Handle) (key payload : ℕ) (m : Mem) (s : Scratch) → tried (pathTo h key m) (insertOf h key payload m s .answer) ≡ false
       → insertOf h key payload m s .scratch ≡ s

@@ -1,7 +1,7 @@
 -- The tidying of an insert and the whole rebuild, way by way, and what each asks. Assumes nothing.
 use mathlib.Core.Bool.{Bool, true, false}
 use mathlib.Core.List.{List}
-use mathlib.Core.Path.{_≡_, refl, sym, ap, _∙_}
+use mathlib.Core.Path.{_≡_, refl, sym, ap, subst⁻¹, _∙_}
 use Prim.Native.Nat.{ℕ, _+_, _^_, _<_, _≤_}
 use native.Mathlib.Omega.{arith}
 use borrow.Author.Tests.{lt-ltb, le-ltb}
@@ -15,17 +15,19 @@ use Rattle.build.specs.declared.Built.the-variants.{At, NoRoom as Roomless}
 use Rattle.counters.specs.Counters.{dueIn}
 use Rattle.insert.proofs.Leaves.{path-length, path-place}
 use Rattle.insert.proofs.Standings.{leaves, done-at}
-use Rattle.insert.specs.Inserting.{Insert, insertion, notDue, putOff, wholeTree, fresh, heldPayload, slotAbove, soundDue, standing, replaced, tidyEnds, tidyBy, tidyOf, pairEnds, pairBy, settleAt, settleOf, wholeEnds, wholeBy, wholeOf, inserted}
+use Rattle.insert.specs.Inserting.{Insert, insertion, notDue, putOff, wholeTree, Fresh, fresh, heldPayload, slotAbove, soundDue, standing, replaced, tidyEnds, tidyBy, tidyOf, pairEnds, pairBy, settleAt, settleOf, wholeEnds, wholeBy, wholeOf, inserted}
 use Rattle.insert.specs.Steps.{Ready, Sized}
 use Rattle.insert.specs.declared.Inserted.the-variants.{Done, NoRoom, Damage}
 use Rattle.insert.specs.declared.Inserting.{Inserting}
 use Rattle.laws.proofs.Tests.{both}
 use Rattle.laws.specs.Pick.{pick}
+use Rattle.pool.proofs.Growth.{Grows}
 use Rattle.pool.specs.Memory.{Mem, recordsIn}
 use Rattle.rebuild.proofs.Conflicts.{pair-roomless}
+use Rattle.rebuild.proofs.Grown.{pair-grows, grown-keys, grown-payloads}
 use Rattle.rebuild.specs.Judging.{Pooled, Gatherable, Rebuildable}
 use Rattle.rebuild.specs.Pairs.{PairFits, pairIf, pairOf}
-use Rattle.rebuild.specs.Rebuilding.{soundBelow, keysWith, payloadsWith, afresh, swapped, swap, inPlace, Scratch, Rebuilt, rebuilt, rebuildOf}
+use Rattle.rebuild.specs.Rebuilding.{soundBelow, keysWith, payloadsWith, afresh, swapped, swap, inPlace, Scratch, Rebuilt, rebuilt, rebuildOver, rebuildOf}
 use Rattle.store.specs.declared.Handle.{Handle}
 use Rattle.walk.specs.Walks.{longestPath}
 use Rattle.walk.specs.declared.Path.{Path}
@@ -55,7 +57,7 @@ afresh-within above ks ps m r e =
     (λ t. absurd (roomless-not-at r Roomless refl (rw t at e)))
 
 pub rebuilt-within : (capacity k p above top : ℕ) (m : Mem) (s : Scratch) (r : ℕ) → rebuildOf capacity k p above top m s .out .built ≡ At r → r < recordsIn (m .nodes)
-unfolding rebuildOf inPlace
+unfolding rebuildOf rebuildOver inPlace
 rebuilt-within capacity k p above top m s r e =
     let ks = keysWith capacity k above top m in
     let ps = payloadsWith capacity k p above top m in
@@ -68,7 +70,7 @@ swap-roomless top m (At r) after e = absurd (roomless-not-at r (At r) e refl)
 swap-roomless top m Roomless after e = refl
 
 pub rebuilt-roomless : (capacity k p above top : ℕ) (m : Mem) (s : Scratch) → rebuildOf capacity k p above top m s .out .built ≡ Roomless → rebuildOf capacity k p above top m s .out .memory ≡ m
-unfolding rebuildOf inPlace
+unfolding rebuildOf rebuildOver inPlace
 rebuilt-roomless capacity k p above top m s e =
     let ks = keysWith capacity k above top m in
     let ps = payloadsWith capacity k p above top m in
@@ -91,22 +93,22 @@ pair-small c a p b q m x m′ e d g o = pair-within c a p b q m d o (sym (ap (λ
 -- the ways of a tidying
 module _ (h : Handle) (k p q : ℕ) (c : Bool) (j : ℕ) (path : Path) (z : Sized path) (i above d : ℕ) (m : Mem) (s : Scratch) (x : Insert) where
   pub tidy-none : path .len ≤ i → x ≡ standing h (fresh k p q c j (take (path .len) (path .nodes))) notDue d m s
-      → x ≡ tidyOf h (fresh k p q c j (take (path .len) (path .nodes))) i above d m s
+      → x ≡ tidyOf h (fresh k p q c j (take (path .len) (path .nodes))) i above d m m s
   unfolding tidyOf
   tidy-none le e = rw (le-ltb i (length (take (path .len) (path .nodes))) (omega (arith, path-length path z))) e
 
   module _ (lt : i < path .len) (b : Built) (m′ : Mem) (s′ : Scratch) (r : rebuilt (out b m′) s′ ≡ rebuildOf (h .capacity) k p i (getD (path .nodes) i 0) m s) where
-    tidy-is : tidyEnds h (fresh k p q c j (take (path .len) (path .nodes))) i above d b m′ s′ ≡ tidyOf h (fresh k p q c j (take (path .len) (path .nodes))) i above d m s
-    unfolding tidyOf
+    tidy-is : tidyEnds h (fresh k p q c j (take (path .len) (path .nodes))) i above d b m′ s′ ≡ tidyOf h (fresh k p q c j (take (path .len) (path .nodes))) i above d m m s
+    unfolding tidyOf rebuildOf
     tidy-is = rw (lt-ltb i (length (take (path .len) (path .nodes))) (omega (arith, path-length path z)), path-place path z i lt, ← r)
 
     pub tidy-done : (t : ℕ) → b ≡ At t → x ≡ replaced h (fresh k p q c j (take (path .len) (path .nodes))) i above d t m′ s′
-        → x ≡ tidyOf h (fresh k p q c j (take (path .len) (path .nodes))) i above d m s
+        → x ≡ tidyOf h (fresh k p q c j (take (path .len) (path .nodes))) i above d m m s
     unfolding tidyEnds
     tidy-done t f e = e ∙ (rw f at tidy-is)
 
     pub tidy-put-off : b ≡ Roomless → x ≡ standing h (fresh k p q c j (take (path .len) (path .nodes))) putOff d m′ s′
-        → x ≡ tidyOf h (fresh k p q c j (take (path .len) (path .nodes))) i above d m s
+        → x ≡ tidyOf h (fresh k p q c j (take (path .len) (path .nodes))) i above d m m s
     unfolding tidyEnds
     tidy-put-off f e = e ∙ (rw f at tidy-is)
 
@@ -116,6 +118,17 @@ pub new-within : (h : Handle) (k p i top : ℕ) (m : Mem) (s : Scratch) (b : Bui
 new-within h k p i top m s b m′ s′ r t f o =
     let e : rebuildOf (h .capacity) k p i top m s .out .built ≡ At t = sym (ap (λ (y : Rebuilt). y .out .built) r) ∙ f in
     omega (arith, o .records, rebuilt-within (h .capacity) k p i top m s t e)
+
+-- A sound subtree has the same live keys once the memory has grown, so a tidying that reads them then is the one of the keys before.
+pub tidy-before : (h : Handle) (f : Fresh) (i above d : ℕ) (m m′ : Mem) (s : Scratch) → soundDue (h .capacity) (f .key) (f .path) i m ≡ true → Grows m m′
+    → tidyOf h f i above d m′ m′ s ≡ tidyOf h f i above d m m′ s
+unfolding tidyOf soundDue
+tidy-before h f i above d m m′ s sound g =
+    both (ltb i (length (f .path)))
+    (λ e.
+    let inside : soundBelow (h .capacity) (f .key) i (getD (f .path) i 0) m ≡ true = rw e at sound in
+    rw (e, grown-keys (h .capacity) (f .key) i (getD (f .path) i 0) m inside m′ g, grown-payloads (h .capacity) (f .key) i (getD (f .path) i 0) m inside m′ g (f .payload)))
+    (λ e. rw e)
 
 -- the steps before it
 module _ (h : Handle) (k p q : ℕ) (c : Bool) (j : ℕ) (path : List ℕ) (m : Mem) (s : Scratch) (i : ℕ) (due : i ≡ dueIn (m .nodes) c path) where
@@ -137,9 +150,12 @@ module _ (h : Handle) (k p q : ℕ) (c : Bool) (j : ℕ) (path : List ℕ) (m : 
         let u : m′ ≡ m = ap (λ (o : Out). o .memory) pair ∙ pair-roomless c k p j (heldPayload (fresh k p q c j path) m) m f n in
         rw (e, u) (rw g at settle-is)
 
-    pub settle-tidy : (x : Insert) (d : ℕ) → b ≡ At d → x ≡ tidyOf h (fresh k p q c j path) i above d m′ s → x ≡ settleOf h (fresh k p q c j path) m s
+    grown : Grows m m′
+    grown = subst⁻¹ (Grows m) (ap (λ (o : Out). o .memory) pair) (pair-grows c k p j (heldPayload (fresh k p q c j path) m) m)
+
+    pub settle-tidy : (x : Insert) (d : ℕ) → b ≡ At d → x ≡ tidyOf h (fresh k p q c j path) i above d m′ m′ s → x ≡ settleOf h (fresh k p q c j path) m s
     unfolding pairEnds
-    settle-tidy x d g e = e ∙ (rw g at settle-is)
+    settle-tidy x d g e = e ∙ tidy-before h (fresh k p q c j path) i above d m m′ s sound grown ∙ (rw g at settle-is)
 
 -- the whole tree
 module _ (h : Handle) (k p : ℕ) (m : Mem) (s : Scratch) (r : Inserting) where

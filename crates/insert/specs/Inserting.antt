@@ -16,7 +16,7 @@ use Rattle.pool.specs.Memory.{Mem, mem, payloadWord}
 use Rattle.pool.specs.Reading.{nodeIn}
 use Rattle.pool.specs.Writing.{putData, putChild}
 use Rattle.rebuild.specs.Pairs.{pairIf, pairGone}
-use Rattle.rebuild.specs.Rebuilding.{soundBelow, Scratch, Rebuilt, rebuildOf}
+use Rattle.rebuild.specs.Rebuilding.{soundBelow, keysWith, payloadsWith, Scratch, Rebuilt, rebuildOver, rebuildOf}
 use Rattle.store.specs.Handles.{handleFits}
 use Rattle.store.specs.declared.Handle.{Handle}
 use Rattle.walk.specs.Walks.{longestPath, keySlot, Walk, walkOf}
@@ -110,16 +110,20 @@ tidyEnds h f i q c Roomless m s = standing h f putOff c m s
 abbrev pub tidyBy : Handle → Fresh → ℕ → ℕ → ℕ → Rebuilt → Insert
 tidyBy h f i q c x = tidyEnds h f i q c (x .out .built) (x .out .memory) (x .scratch)
 
--- "Only the due node nearest the root is tidied": the one at place i, if there is one
-unfoldable pub tidyOf : Handle → Fresh → ℕ → ℕ → ℕ → Mem → Scratch → Insert
-tidyOf h f i q c m s =
-    pick (ltb i (length (f .path)))
-    (tidyBy h f i q c (rebuildOf (h .capacity) (f .key) (f .payload) i (getD (f .path) i 0) m s))
-    (standing h f notDue c m s)
+-- the node r at place i of the path built afresh in the memory m, over the live keys that it has in the memory before and the new one
+abbrev pub rebuildAt : Handle → Fresh → ℕ → ℕ → Mem → Mem → Scratch → Rebuilt
+rebuildAt h f i r before m s =
+    rebuildOver i r (keysWith (h .capacity) (f .key) i r before) (payloadsWith (h .capacity) (f .key) (f .payload) i r before) m s
+
+-- "Only the due node nearest the root is tidied": the one at place i, if there is one. Its keys are those of the memory before the two-key
+-- node has its places
+unfoldable pub tidyOf : Handle → Fresh → ℕ → ℕ → ℕ → Mem → Mem → Scratch → Insert
+tidyOf h f i q c before m s =
+    pick (ltb i (length (f .path))) (tidyBy h f i q c (rebuildAt h f i (getD (f .path) i 0) before m s)) (standing h f notDue c m s)
 
 -- the two-key node's places come first: 8 without them
 unfoldable pub pairEnds : Handle → Fresh → ℕ → ℕ → Mem → Scratch → Built → Mem → Insert
-pairEnds h f i q before s (At c) m = tidyOf h f i q c m s
+pairEnds h f i q before s (At c) m = tidyOf h f i q c before m s
 pairEnds h f i q before s Roomless m = insertion (refused noRoom) h before s
 
 abbrev pub pairBy : Handle → Fresh → ℕ → ℕ → Mem → Scratch → Out → Insert

@@ -213,7 +213,8 @@ fn replace_at(
     done(h, h.root, conflict, Inserted::TIDIED)
 }
 
-// The due node is tidied, if there is one; a tidying without room is put off.
+// The due node is tidied, if there is one; a tidying without room is put off. The keys are read in the memory as it is here, which has the
+// two-key node already.
 fn tidy(
     h: Handle,
     key: u64,
@@ -237,7 +238,7 @@ fn tidy(
     ensures { λ r. ⌜ insertion (inserted (r .answer)) (r .handle) (mem (now (nodes .exit)) (now (slots .exit)) (now (used .exit)))
         (scratch (now (keys .exit)) (now (payloads .exit)) (now (places .exit)))
         ≡ tidyOf h (fresh key payload q conflict other (take (path .len) (path .nodes))) at above c (mem (now (nodes .entry)) (now (slots .entry)) (now (used .entry)))
-        (scratch (now (keys .entry)) (now (payloads .entry)) (now (places .entry))) ⌝ }
+        (mem (now (nodes .entry)) (now (slots .entry)) (now (used .entry))) (scratch (now (keys .entry)) (now (payloads .entry)) (now (places .entry))) ⌝ }
 {
     if path.len <= at {
         return stand(

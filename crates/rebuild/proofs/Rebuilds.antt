@@ -14,7 +14,7 @@ use Rattle.laws.specs.Keys.{Rising}
 use Rattle.pool.proofs.Sets.{sets-past}
 use Rattle.pool.specs.Memory.{Mem}
 use Rattle.rebuild.specs.Judging.{Judgeable, Judges, Gathers, Rebuildable}
-use Rattle.rebuild.specs.Rebuilding.{keysWith, payloadsWith, inPlace, Scratch, scratch, wiped, rebuilt, rebuildOf}
+use Rattle.rebuild.specs.Rebuilding.{keysWith, payloadsWith, inPlace, Scratch, scratch, wiped, rebuilt, rebuildOver, rebuildOf}
 use Rattle.rebuild.proofs.Gathering.{with-rising, with-few, with-some, with-same}
 use Rattle.rebuild.proofs.Judging.{front-is}
 use Rattle.walk.specs.Walks.{longestPath}
@@ -74,7 +74,7 @@ module _ (capacity k p above top : ℕ) (m : Mem) (s : Scratch) (r : Rebuildable
         → Judges above top (take (n - 0) keys₁) (take (n - 0) payloads₁) m (s .places) m′ places₁ b
         → keys₂ ≡ sets keys₁ 0 (replicate n 0) → payloads₂ ≡ sets payloads₁ 0 (replicate n 0) → places₂ ≡ sets places₁ 0 (replicate n 0)
         → rebuilt (out b m′) (scratch keys₂ payloads₂ places₂) ≡ rebuildOf capacity k p above top m s
-    unfolding rebuildOf wiped
+    unfolding rebuildOf rebuildOver wiped
     rebuild-is m′ places₁ keys₂ payloads₂ places₂ b j c d e =
         let o : out b m′ ≡ inPlace above top ks ps m = rw (keys-part, payloads-part) at (j .is) in
         let l : places₁ ≡ sets (s .places) 0 (replicate (length (sizesOf longestPath ks)) 0) = rw keys-part at (j .list) in

@@ -18,7 +18,7 @@ use Rattle.pool.specs.Memory.{Mem, mem}
 use Rattle.pool.specs.Reading.{nodeIn, nodeFits, nodeAt, slotSays, slotAt}
 use Rattle.pool.specs.Writing.{putNode, putData, putChild, zeroRecord, zeroRun}
 use Rattle.rebuild.specs.Pairs.{pairOf, pairIf, pairGone}
-use Rattle.rebuild.specs.Rebuilding.{liveItems, soundBelow, lowerLive, upperLive, keysWith, payloadsWith, afresh, swapped, inPlace, Scratch, scratch, wiped, rebuilt, rebuildOf}
+use Rattle.rebuild.specs.Rebuilding.{liveItems, soundBelow, lowerLive, upperLive, keysWith, payloadsWith, afresh, swapped, inPlace, Scratch, scratch, wiped, rebuilt, rebuildOver, rebuildOf}
 use Rattle.walk.specs.Events.{firstIn, lastIn, countIn, inSlot, inSlots, inRecord, tooLong, eventsAt, eventsOf}
 use Rattle.walk.specs.Items.{mayEnter, mayHold, items}
 
@@ -64,12 +64,12 @@ zerosTo n = scratch (replicate n 0 ++ replicate (8 - n) 9) (replicate n 0 ++ rep
 
 -- with room for all three nodes
 root-rebuilt : rebuildOf 8 1 7 0 0 before (zerosTo 0) ≡ rebuilt (out (At 3) after) (zerosTo 7)
-unfolding rebuildOf wiped inPlace swapped afresh payloadsWith keysWith upperLive lowerLive liveItems listing items mayEnter mayHold eventsOf eventsAt inRecord inSlots inSlot firstIn lastIn countIn nodeAt nodeFits nodeIn slotAt slotSays slotOf inRange usedAt fullRun markAt markRun clearAt clearRun firstFrom firstUnused freeRun lowestFrom lowestRun slotsFor countAt spreadBelow spread modelAt leastFrom tOf emptyModel modelOf keysTo putNode putData putChild zeroRecord zeroRun lowestRecord lowestSlots placeNode payloadsTo fillSlot fillSlots nodeOn nodeWith build depthOf depthUnder dropNode releaseSlot releaseSlots releaseRecord release
+unfolding rebuildOf rebuildOver wiped inPlace swapped afresh payloadsWith keysWith upperLive lowerLive liveItems listing items mayEnter mayHold eventsOf eventsAt inRecord inSlots inSlot firstIn lastIn countIn nodeAt nodeFits nodeIn slotAt slotSays slotOf inRange usedAt fullRun markAt markRun clearAt clearRun firstFrom firstUnused freeRun lowestFrom lowestRun slotsFor countAt spreadBelow spread modelAt leastFrom tOf emptyModel modelOf keysTo putNode putData putChild zeroRecord zeroRun lowestRecord lowestSlots placeNode payloadsTo fillSlot fillSlots nodeOn nodeWith build depthOf depthUnder dropNode releaseSlot releaseSlots releaseRecord release
 root-rebuilt = refl
 
 -- one slot too few: the memory stays, and 7 places of scratch are zeros
 without-room : rebuildOf 8 1 7 0 0 (free 21 20) (zerosTo 0) ≡ rebuilt (out NoRoom (free 21 20)) (zerosTo 7)
-unfolding rebuildOf wiped inPlace swapped afresh payloadsWith keysWith upperLive lowerLive liveItems listing items mayEnter mayHold eventsOf eventsAt inRecord inSlots inSlot firstIn lastIn countIn nodeAt nodeFits nodeIn slotAt slotSays slotOf inRange usedAt fullRun markAt markRun firstFrom firstUnused freeRun lowestFrom lowestRun slotsFor countAt spreadBelow spread modelAt leastFrom tOf emptyModel modelOf keysTo putNode putData putChild zeroRun lowestRecord lowestSlots placeNode payloadsTo fillSlot fillSlots nodeOn nodeWith build depthOf depthUnder
+unfolding rebuildOf rebuildOver wiped inPlace swapped afresh payloadsWith keysWith upperLive lowerLive liveItems listing items mayEnter mayHold eventsOf eventsAt inRecord inSlots inSlot firstIn lastIn countIn nodeAt nodeFits nodeIn slotAt slotSays slotOf inRange usedAt fullRun markAt markRun firstFrom firstUnused freeRun lowestFrom lowestRun slotsFor countAt spreadBelow spread modelAt leastFrom tOf emptyModel modelOf keysTo putNode putData putChild zeroRun lowestRecord lowestSlots placeNode payloadsTo fillSlot fillSlots nodeOn nodeWith build depthOf depthUnder
 without-room = refl
 
 -- the new tree has two nodes on its longest path: 22 may stand above it, 23 may not

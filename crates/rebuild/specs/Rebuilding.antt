@@ -94,7 +94,11 @@ pub record Rebuilt : Type 0 where
 abbrev pub rebuilt : Out → Scratch → Rebuilt
 rebuilt o s = record { out = o; scratch = s }
 
+-- the tree over the keys in place of the one at record top; scratch is used for as many places as there are keys
+unfoldable pub rebuildOver : ℕ → ℕ → List ℕ → List ℕ → Mem → Scratch → Rebuilt
+rebuildOver above top ks ps m s = rebuilt (inPlace above top ks ps m) (wiped (length ks) s)
+
 -- the subtree at record top over its live keys and the new key k with payload p
 unfoldable pub rebuildOf : ℕ → ℕ → ℕ → ℕ → ℕ → Mem → Scratch → Rebuilt
 rebuildOf capacity k p above top m s =
-    rebuilt (inPlace above top (keysWith capacity k above top m) (payloadsWith capacity k p above top m) m) (wiped (length (keysWith capacity k above top m)) s)
+    rebuildOver above top (keysWith capacity k above top m) (payloadsWith capacity k p above top m) m s
