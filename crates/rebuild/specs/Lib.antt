@@ -1,3 +1,4 @@
 pub mod Judging
 pub mod Pairs
 pub mod Rebuilding
+pub mod Zeroing
