@@ -20,7 +20,7 @@ use Rattle.model.specs.Groups.{keysTo}
 use Rattle.model.specs.Slots.{slotOf}
 use Rattle.pool.specs.Memory.{Mem}
 use Rattle.rebuild.specs.Rebuilding.{Scratch, scratch}
-use Rattle.store.specs.Handles.{limitsHold, poolsAre}
+use Rattle.store.specs.Handles.{newHandle, limitsHold, poolsAre}
 use Rattle.store.specs.Loading.{loadFits}
 use Rattle.store.specs.declared.Handle.{Handle}
 use Rattle.demands.specs.Demand2.{visits, foundAs, LoadLeaves, InsertLeaves, Demand2}
@@ -32,7 +32,7 @@ use Rattle.demands.specs.Paths.{pathB, pathF, belowB, belowF, graftB, gr
 use Rattle.demands.specs.Placed.{Head, leaf, sub, Forest, nil, cons, flatF, bit, at, view, Good}
 use Rattle.demands.specs.Settling.{settles, dueB, dueF, insertT}
 use Rattle.demands.specs.ShutOut.{RefusesLoads, RefusesLookups, RefusesBands, RefusesInserts, RefusesReplaces, RefusesDeletes, SixAlways, StoresNothing, NotFoundAfter, Calls, comesTo, PretendsLater, PretendsOnce, said, MakesUpVisits, VisitsUnread, ShutOut}
-use Rattle.demands.specs.Soundings.{handle, oldScratch, p1Pools, p7Pools, p8Pools}
+use Rattle.demands.specs.Soundings.{oldScratch, p1Pools, p7Pools, p8Pools}
 use Rattle.demands.specs.Stores.{Store}
 use Rattle.demands.proofs.Examples.{p1-rises, p1-tree, p1-good, p7-good, p8-tree, p8-good, scratch-fits}
 use Rattle.demands.proofs.Fitting.{good-kept}
@@ -93,7 +93,7 @@ module _ (x : Store) (d : Demand2 x) where
 
 -- P1's list with a capacity of 6: what the load, the insert of 25 and then that of 5 leave, and no word else.
 abbrev six : ℕ → Handle
-six n = handle 0 n 6 2 12
+six n = newHandle 0 n 6 2 12
 
 abbrev sixScratch : Scratch
 sixScratch = scratch (replicate 6 7) (replicate 6 8) (replicate 6 9)

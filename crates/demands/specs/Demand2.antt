@@ -18,7 +18,7 @@ use Rattle.pool.specs.Memory.{Mem, recordsIn, slotsIn, recordWords, slotWords, 
 use Rattle.rebuild.specs.Rebuilding.{Scratch, lastKey}
 use Rattle.store.specs.Bands.{Band, band}
 use Rattle.store.specs.Calls.{Call, call, oneLess}
-use Rattle.store.specs.Handles.{noHandle}
+use Rattle.store.specs.Handles.{newHandle, noHandle}
 use Rattle.store.specs.Loading.{emptied, loadFits}
 use Rattle.store.specs.declared.Handle.{Handle}
 use Rattle.walk.specs.Walks.{longestPath}
@@ -77,7 +77,7 @@ abbrev pub loadTree : List ℕ → List ℕ → Mem → Grown
 loadTree ks ps m = grow longestPath (recordsIn (m .nodes)) (slotsIn (m .slots)) (emptied m .used) ks ps
 
 abbrev pub loadHandle : ℕ → ℕ → ℕ → Mem → Handle
-loadHandle root count capacity m = record { root = root; count = count; capacity = capacity; records = recordsIn (m .nodes); slots = slotsIn (m .slots) }
+loadHandle root count capacity m = newHandle root count capacity (recordsIn (m .nodes)) (slotsIn (m .slots))
 
 -- a load whose list is right and fits: where the tree has room it stands in memory, and reading it in slot order gives the list; else 8
 abbrev pub LoadLeaves : ℕ → List ℕ → List ℕ → Mem → Call → Grown → Type 0

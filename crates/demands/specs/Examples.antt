@@ -5,9 +5,10 @@ use mathlib.Core.List.{List, [], _∷_}
 use Prim.Native.Nat.{ℕ, zero, suc, _+_, _-_, _*_, _^_}
 use lib.ListN.{replicate, set, take}
 use Rattle.pool.specs.Memory.{Mem, mem}
+use Rattle.store.specs.Handles.{newHandle}
 use Rattle.store.specs.declared.Handle.{Handle}
 use Rattle.demands.specs.Placed.{Head, Branch, null, leaf, sub, Forest, nil, cons}
-use Rattle.demands.specs.Soundings.{handle, p1Pools}
+use Rattle.demands.specs.Soundings.{p1Pools}
 
 -- a node at record r with its model and its run; elements, built and conflicts
 abbrev pub head : ℕ → ℕ → ℕ → ℕ → ℕ → ℕ → ℕ → Head
@@ -34,7 +35,7 @@ abbrev pub p1Old : Mem
 p1Old = mem (replicate 16 5) (replicate 24 7) (11 ∷ [])
 
 abbrev pub p1Handle : Handle
-p1Handle = handle 0 4 5 2 12
+p1Handle = newHandle 0 4 5 2 12
 
 abbrev pub p1Root : Head
 p1Root = head 0 20 11 0 4 4 0
@@ -44,7 +45,7 @@ p1Slots = cons (leaf 10 1) (cons (leaf 20 2) (gap 4 (cons (leaf 30 3) (cons (lea
 
 -- P7: P1 then 25, at slot 3
 abbrev pub p7Handle : Handle
-p7Handle = handle 0 5 5 2 12
+p7Handle = newHandle 0 5 5 2 12
 
 abbrev pub p7Root : Head
 p7Root = head 0 20 11 0 5 4 0
@@ -54,7 +55,7 @@ p7Slots = cons (leaf 10 1) (cons (leaf 20 2) (gap 1 (cons (leaf 25 9) (gap 2 (co
 
 -- P8: P1 then 5, which conflicts with 10
 abbrev pub p8Handle : Handle
-p8Handle = handle 0 5 5 2 12
+p8Handle = newHandle 0 5 5 2 12
 
 abbrev pub p8Root : Head
 p8Root = head 0 20 11 0 5 4 1
@@ -70,7 +71,7 @@ abbrev pub p4Payloads : List ℕ
 p4Payloads = 1 ∷ 2 ∷ 3 ∷ 4 ∷ 5 ∷ 6 ∷ []
 
 abbrev pub p4Handle : Handle
-p4Handle = handle 0 6 6 3 20
+p4Handle = newHandle 0 6 6 3 20
 
 abbrev pub p4Root : Head
 p4Root = head 0 101 2 0 6 6 0
@@ -87,11 +88,11 @@ shortPools = mem (p1Pools .nodes) (take 23 (p1Pools .slots)) (p1Pools .used)
 
 -- root: the handle names record 1. Nothing else looks at it
 abbrev pub wrongRoot : Handle
-wrongRoot = handle 1 4 5 2 12
+wrongRoot = newHandle 1 4 5 2 12
 
 -- count: the handle counts 3 keys. 3 is no more than the capacity either
 abbrev pub wrongCount : Handle
-wrongCount = handle 0 3 5 2 12
+wrongCount = newHandle 0 3 5 2 12
 
 -- image: record 1 is marked used, and no node is there; or a NULL slot, number 2, has a payload
 abbrev pub strayMark : Mem
@@ -122,7 +123,7 @@ chainSlots zero r = replicate 8 0
 chainSlots (suc n) r = (2 * 2 ^ 48 + (r + 1)) ∷ 0 ∷ 0 ∷ 0 ∷ 0 ∷ 0 ∷ 0 ∷ 0 ∷ chainSlots n (r + 1)
 
 abbrev pub deepHandle : Handle
-deepHandle = handle 0 0 1 25 100
+deepHandle = newHandle 0 0 1 25 100
 
 abbrev pub deepPools : Mem
 deepPools = mem (chainNodes 25 0) (chainSlots 24 0) ((2 ^ 64 - 1) ∷ (2 ^ 61 - 1) ∷ [])

@@ -15,7 +15,7 @@ use Rattle.rebuild.specs.Rebuilding.{Scratch, scratch}
 use Rattle.sounding.specs.Studio.{packOf}
 use Rattle.store.specs.Bands.{Band, band, bandOf}
 use Rattle.store.specs.Calls.{Call, call, lookupOf}
-use Rattle.store.specs.Handles.{noHandle}
+use Rattle.store.specs.Handles.{newHandle, noHandle}
 use Rattle.store.specs.Loading.{loadOf}
 use Rattle.store.specs.declared.Handle.{Handle}
 
@@ -97,9 +97,6 @@ oldScratch = scratch (replicate 5 7) (replicate 5 8) (replicate 5 9)
 abbrev pub nothing : Mem
 nothing = mem (0 ∷ (2 ^ 48) ∷ 64 ∷ 0 ∷ 0 ∷ 0 ∷ 0 ∷ 0 ∷ []) (replicate 128 0) ((2 ^ 64 - 1) ∷ 1 ∷ [])
 
-abbrev pub handle : ℕ → ℕ → ℕ → ℕ → ℕ → Handle
-handle root count capacity records slots = record { root = root; count = count; capacity = capacity; records = records; slots = slots }
-
 abbrev pub table : List Row
 table =
     -- P1
@@ -116,12 +113,12 @@ table =
     ∷ node (7 ∷ 8 ∷ []) 4 0 7 2 (1 ∷ 2 ∷ [])
     ∷ node (0 ∷ (2 ^ 48 - 1) ∷ []) 4 0 0 (2 ^ 48) (1 ∷ 2 ∷ [])
     -- P4's places
-    ∷ loads 6 (0 ∷ 100 ∷ 101 ∷ 102 ∷ 10000 ∷ 20000 ∷ []) (1 ∷ 2 ∷ 3 ∷ 4 ∷ 5 ∷ 6 ∷ []) oldPools (call (done []) (handle 0 6 6 3 20) p4Pools)
+    ∷ loads 6 (0 ∷ 100 ∷ 101 ∷ 102 ∷ 10000 ∷ 20000 ∷ []) (1 ∷ 2 ∷ 3 ∷ 4 ∷ 5 ∷ 6 ∷ []) oldPools (call (done []) (newHandle 0 6 6 3 20) p4Pools)
     -- P7 and P8, from P1's store; then the lookup of 7
-    ∷ loads 5 (10 ∷ 20 ∷ 30 ∷ 40 ∷ []) (1 ∷ 2 ∷ 3 ∷ 4 ∷ []) (mem (replicate 16 5) (replicate 24 7) (11 ∷ [])) (call (done []) (handle 0 4 5 2 12) p1Pools)
-    ∷ inserts (handle 0 4 5 2 12) 25 9 p1Pools oldScratch (insertion (done (0 ∷ 0 ∷ [])) (handle 0 5 5 2 12) p7Pools oldScratch)
-    ∷ inserts (handle 0 4 5 2 12) 5 9 p1Pools oldScratch (insertion (done (1 ∷ 0 ∷ [])) (handle 0 5 5 2 12) p8Pools oldScratch)
-    ∷ looks (handle 0 5 5 2 12) 7 p8Pools (refusedWith notHeld (2 ∷ []))
+    ∷ loads 5 (10 ∷ 20 ∷ 30 ∷ 40 ∷ []) (1 ∷ 2 ∷ 3 ∷ 4 ∷ []) (mem (replicate 16 5) (replicate 24 7) (11 ∷ [])) (call (done []) (newHandle 0 4 5 2 12) p1Pools)
+    ∷ inserts (newHandle 0 4 5 2 12) 25 9 p1Pools oldScratch (insertion (done (0 ∷ 0 ∷ [])) (newHandle 0 5 5 2 12) p7Pools oldScratch)
+    ∷ inserts (newHandle 0 4 5 2 12) 5 9 p1Pools oldScratch (insertion (done (1 ∷ 0 ∷ [])) (newHandle 0 5 5 2 12) p8Pools oldScratch)
+    ∷ looks (newHandle 0 5 5 2 12) 7 p8Pools (refusedWith notHeld (2 ∷ []))
     -- P9
     ∷ key (negℤ (pos 150)) 7 (done (5328443801607 ∷ []))
     -- P10
@@ -130,6 +127,6 @@ table =
     -- P11
     ∷ loads 2 (4 ∷ 4 ∷ []) (1 ∷ 2 ∷ []) oldPools (call (refusedWith notRising (1 ∷ [])) noHandle oldPools)
     -- P12: a load of nothing, and a band over it: none, no more
-    ∷ loads 1 [] [] emptyPools (call (done []) (handle 0 0 1 1 64) nothing)
-    ∷ lists (handle 0 0 1 1 64) 0 (2 ^ 48 - 1) nothing (3 ∷ []) (5 ∷ []) (band (done (0 ∷ 0 ∷ [])) (3 ∷ []) (5 ∷ []))
+    ∷ loads 1 [] [] emptyPools (call (done []) (newHandle 0 0 1 1 64) nothing)
+    ∷ lists (newHandle 0 0 1 1 64) 0 (2 ^ 48 - 1) nothing (3 ∷ []) (5 ∷ []) (band (done (0 ∷ 0 ∷ [])) (3 ∷ []) (5 ∷ []))
     ∷ []

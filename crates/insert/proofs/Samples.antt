@@ -21,7 +21,7 @@ use Rattle.pool.specs.Writing.{putNode, putData, putChild, zeroRecord, zeroRun}
 use Rattle.rebuild.specs.Pairs.{pairOf, pairIf, pairGone}
 use Rattle.rebuild.specs.Rebuilding.{liveItems, soundBelow, lowerLive, upperLive, keysWith, payloadsWith, afresh, swapped, inPlace, Scratch, scratch, wiped, rebuildOver}
 use Rattle.store.specs.Calls.{Call, call, searchEnd, searchOf, lookupOf}
-use Rattle.store.specs.Handles.{limitsHold, poolsAre, handleFits}
+use Rattle.store.specs.Handles.{newHandle, limitsHold, poolsAre, handleFits}
 use Rattle.store.specs.Loading.{faultFrom, firstFault, emptied, loadFits, loadBuilt, loadTree, loadList, loadOf}
 use Rattle.store.specs.declared.Handle.{Handle}
 use Rattle.walk.specs.Events.{firstIn, lastIn, countIn, inSlot, inSlots, inRecord, eventsAt, eventsOf}
@@ -40,7 +40,7 @@ abbrev p1 : ℕ → ℕ → Call
 p1 capacity records = loadOf capacity (10 ∷ 20 ∷ 30 ∷ 40 ∷ []) (1 ∷ 2 ∷ 3 ∷ 4 ∷ []) (mem (replicate (records * 8) 7) (replicate 64 7) (7 ∷ []))
 
 abbrev handle : ℕ → ℕ → ℕ → ℕ → Handle
-handle root count capacity records = record { root = root; count = count; capacity = capacity; records = records; slots = 32 }
+handle root count capacity records = newHandle root count capacity records 32
 
 -- scratch holds 9 in every place before the call
 abbrev nines : ℕ → List ℕ

@@ -17,7 +17,7 @@ use Rattle.pool.specs.Reading.{nodeIn}
 use Rattle.pool.specs.Writing.{putData, putChild}
 use Rattle.rebuild.specs.Pairs.{pairIf, pairGone}
 use Rattle.rebuild.specs.Rebuilding.{soundBelow, keysWith, payloadsWith, Scratch, Rebuilt, rebuildOver, rebuildOf}
-use Rattle.store.specs.Handles.{handleFits}
+use Rattle.store.specs.Handles.{withRoot, withCount, handleFits}
 use Rattle.store.specs.declared.Handle.{Handle}
 use Rattle.walk.specs.Walks.{longestPath, keySlot, Walk, walkOf}
 use Rattle.walk.specs.declared.End.{End}
@@ -58,7 +58,7 @@ asNumber b = pick b 1 0
 
 -- one key more, under a root that may be new
 abbrev pub oneMoreAt : ℕ → Handle → Handle
-oneMoreAt root h = record { root = root; count = h .count + 1; capacity = h .capacity; records = h .records; slots = h .slots }
+oneMoreAt root h = withCount (h .count + 1) (withRoot root h)
 
 -- An insert that is neither held nor refused as full: key k with payload p, whose path ends at slot q; in a conflict the key j is there.
 pub record Fresh : Type 0 where

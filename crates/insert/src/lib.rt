@@ -126,7 +126,7 @@ fn one_more(h: Handle, root: usize) -> Handle
     requires { ⌜ h .count < h .capacity ⌝ }
     ensures { λ r. ⌜ r ≡ oneMoreAt root h ⌝ }
 {
-    Handle::new(root, h.count + 1, h.capacity, h.records, h.slots)
+    h.with_root(root).with_count(h.count + 1)
 }
 
 fn as_number(conflict: bool) -> usize

@@ -13,7 +13,7 @@ use Rattle.pool.specs.Reading.{nodeIn, nodeFits, nodeAt, slotSays, slotAt}
 use Rattle.pool.specs.declared.Node.{Node}
 use Rattle.store.specs.Bands.{bandItems, band, bandOut, bandOf}
 use Rattle.store.specs.Calls.{searchEnd, searchOf, lookupOf}
-use Rattle.store.specs.Handles.{poolsAre, limitsHold, handleFits}
+use Rattle.store.specs.Handles.{newHandle, poolsAre, limitsHold, handleFits}
 use Rattle.store.specs.declared.Handle.{Handle}
 use Rattle.walk.specs.Events.{firstIn, lastIn, countIn, inSlot, inSlots, inRecord, tooLong, eventsAt, eventsOf}
 use Rattle.walk.specs.Items.{mayEnter, mayHold, items}
@@ -43,7 +43,7 @@ abbrev used : List ℕ
 used = (1 + 255 * 2 ^ 32) ∷ []
 
 abbrev handle : Handle
-handle = record { root = 0; count = 4; capacity = 16; records = 32; slots = 8 }
+handle = newHandle 0 4 16 32 8
 
 abbrev whole : Mem
 whole = mem nodes slots used

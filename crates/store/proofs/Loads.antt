@@ -25,7 +25,7 @@ use Rattle.pool.specs.Memory.{Mem, mem, recordsIn, slotsIn}
 use Rattle.store.proofs.Faults.{faultless-rises}
 use Rattle.store.proofs.Fitting.{Limits, Pools, limits-given, pools-given}
 use Rattle.store.specs.Calls.{Call, call}
-use Rattle.store.specs.Handles.{limitsHold, poolsAre, noHandle, mapWords}
+use Rattle.store.specs.Handles.{newHandle, limitsHold, poolsAre, noHandle, mapWords}
 use Rattle.store.specs.Loading.{firstFault, emptied, loadFits, loadBuilt, loadFrom, loadTree, loadList, loadOf, loaded, Loadable, Roomy}
 use Rattle.store.specs.declared.Fault.{Fault}
 use Rattle.store.specs.declared.Fault.the-variants.{Nothing, OutOfRange as KeyOutOfRange, NotRising as KeyNotRising}
@@ -141,7 +141,7 @@ module _ (c : ℕ) (ks ps : List ℕ) (m : Mem) (l : Loadable ks ps m) where
 
   module _ (y : Roomy ks m) (b : Built) (after : Mem) (e : out b after ≡ build longestPath ks ps (emptied m)) where
     pub load-done : (r : ℕ) (h : Handle) → b ≡ At r
-        → h ≡ record { root = r; count = length ks; capacity = c; records = recordsIn (m .nodes); slots = slotsIn (m .slots) }
+        → h ≡ newHandle r (length ks) c (recordsIn (m .nodes)) (slotsIn (m .slots))
         → loaded (Done h) after ≡ loadTree c ks ps m
     unfolding loaded loadTree loadBuilt
     load-done r h f g = rw (← e, f, g)

@@ -10,7 +10,7 @@ use Rattle.laws.specs.Keys.{keyBound}
 use Rattle.laws.specs.Pick.{pick}
 use Rattle.pool.specs.Memory.{Mem, mem, payloadWord}
 use Rattle.pool.specs.Writing.{putNull}
-use Rattle.store.specs.Handles.{handleFits}
+use Rattle.store.specs.Handles.{withCount, handleFits}
 use Rattle.store.specs.declared.Changed.{Changed}
 use Rattle.store.specs.declared.Changed.the-variants.{Done, NotHeld as ChangeNotHeld, OutOfRange as ChangeOutOfRange, WrongSizes as ChangeWrongSizes, Damage as ChangeDamage}
 use Rattle.store.specs.declared.Handle.{Handle}
@@ -63,7 +63,7 @@ replaceOf h k p m =
 
 -- the handle with one key less
 abbrev pub oneLess : Handle → Handle
-oneLess h = record { root = h .root; count = h .count - 1; capacity = h .capacity; records = h .records; slots = h .slots }
+oneLess h = withCount (h .count - 1) h
 
 -- "makes the slot NULL and lowers the count of keys; counters and nodes stay"; damage: "in a delete that found its key a count of 0"
 unfoldable pub deleteOf : Handle → ℕ → Mem → Call

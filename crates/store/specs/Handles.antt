@@ -1,5 +1,5 @@
--- The handle, and when the lent pools are of the right sizes (document 01, "Sizes" and row 1 of the answers). Every call that is
--- given a handle tests the same. Definitions only.
+-- The handle, the ways to make one, and when the lent pools are of the right sizes (document 01, "Sizes" and row 1 of the answers).
+-- Every call that is given a handle tests the same; what is in a handle is written out here alone. Definitions only.
 use mathlib.Core.Bool.{Bool, _&&_}
 use Prim.Native.Nat.{ℕ, _+_, _*_, _/_}
 use lib.Dec.{leb, eqb}
@@ -7,6 +7,20 @@ use lib.ListN.{length}
 use Rattle.model.specs.Choice.{mostKeys}
 use Rattle.pool.specs.Memory.{Mem, recordWords, slotWords}
 use Rattle.store.specs.declared.Handle.{Handle}
+
+abbrev pub newHandle : (root count capacity records slots : ℕ) → Handle
+newHandle root count capacity records slots = record { root = root; count = count; capacity = capacity; records = records; slots = slots }
+
+-- the same store under another root, and with another count of keys
+abbrev pub withRoot : ℕ → Handle → Handle
+withRoot root h = newHandle root (h .count) (h .capacity) (h .records) (h .slots)
+
+abbrev pub withCount : ℕ → Handle → Handle
+withCount count h = newHandle (h .root) count (h .capacity) (h .records) (h .slots)
+
+-- the handle that a refused load gives
+abbrev pub noHandle : Handle
+noHandle = newHandle 0 0 0 0 0
 
 -- "capacity 1 to 16,384 keys; node records 1 to 16,384; slots 4 to 131,072"
 abbrev pub leastCapacity : ℕ
@@ -48,7 +62,3 @@ limitsHold capacity records slots =
 unfoldable pub handleFits : Handle → Mem → Bool
 handleFits h m =
     limitsHold (h .capacity) (h .records) (h .slots) && (poolsAre (h .records) (h .slots) m && leb (h .count) (h .capacity))
-
--- the handle that a refused load gives
-abbrev pub noHandle : Handle
-noHandle = record { root = 0; count = 0; capacity = 0; records = 0; slots = 0 }

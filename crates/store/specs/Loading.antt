@@ -17,7 +17,7 @@ use Rattle.laws.specs.Pick.{pick}
 use Rattle.model.specs.Choice.{mostKeys}
 use Rattle.pool.specs.Memory.{Mem, mem, recordsIn, slotsIn}
 use Rattle.store.specs.Calls.{Call, call}
-use Rattle.store.specs.Handles.{mostRecords, mostPoolSlots, mapWords, limitsHold, poolsAre, noHandle}
+use Rattle.store.specs.Handles.{newHandle, mostRecords, mostPoolSlots, mapWords, limitsHold, poolsAre, noHandle}
 use Rattle.store.specs.declared.Fault.{Fault}
 use Rattle.store.specs.declared.Fault.the-variants.{Nothing, OutOfRange as KeyOutOfRange, NotRising as KeyNotRising}
 use Rattle.store.specs.declared.Handle.{Handle}
@@ -47,7 +47,7 @@ loadFits capacity ks ps m =
 -- what is made of a build onto empty pools
 unfoldable pub loadBuilt : ℕ → ℕ → Mem → Built → Mem → Call
 loadBuilt capacity count m (At r) after =
-    call (done []) (record { root = r; count = count; capacity = capacity; records = recordsIn (m .nodes); slots = slotsIn (m .slots) }) after
+    call (done []) (newHandle r count capacity (recordsIn (m .nodes)) (slotsIn (m .slots))) after
 loadBuilt capacity count m Roomless after = call (refused noRoom) noHandle m
 
 abbrev pub loadFrom : ℕ → ℕ → Mem → Out → Call

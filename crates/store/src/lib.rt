@@ -4,7 +4,7 @@ ghost use Rattle.pool.specs.Memory.{mem};
 ghost use Rattle.store.specs.Calls.{call, searchOf, lookupOf, replaceOf, deleteOf, looked, changed};
 ghost use Prim.Native.Nat.{_≤_};
 ghost use Rattle.store.specs.Loading.{firstFault, emptied, loadFits, loadTree, loadOf, loaded, Loadable, Roomy};
-ghost use Rattle.store.specs.Handles.{handleFits, limitsHold, poolsAre, mostRecords, mostPoolSlots};
+ghost use Rattle.store.specs.Handles.{newHandle, withRoot, withCount, handleFits, limitsHold, poolsAre, mostRecords, mostPoolSlots};
 use build::Built;
 use build::Hint;
 use laws::Key;
@@ -39,7 +39,7 @@ impl Handle {
     pub const MOST_SLOTS: usize = 131072;
 
     pub fn new(root: usize, count: usize, capacity: usize, records: usize, slots: usize) -> Self
-        ensures { λ r. ⌜ r ≡ record { root = root; count = count; capacity = capacity; records = records; slots = slots } ⌝ }
+        ensures { λ r. ⌜ r ≡ newHandle root count capacity records slots ⌝ }
     {
         Self {
             root,
@@ -48,6 +48,20 @@ impl Handle {
             records,
             slots,
         }
+    }
+
+    // The same store under another root.
+    pub fn with_root(self, root: usize) -> Self
+        ensures { λ r. ⌜ r ≡ withRoot root self ⌝ }
+    {
+        Self::new(root, self.count, self.capacity, self.records, self.slots)
+    }
+
+    // The same store with another count of keys.
+    pub fn with_count(self, count: usize) -> Self
+        ensures { λ r. ⌜ r ≡ withCount count self ⌝ }
+    {
+        Self::new(self.root, count, self.capacity, self.records, self.slots)
     }
 
     // Are the sizes within the limits, the lent lists just those of the sizes, and the count within the capacity?
@@ -246,10 +260,7 @@ pub fn delete(h: Handle, key: u64, nodes: &[u64], slots: &mut [u64], used: &[u64
                 return unchanged(h, Changed::Damage);
             }
             pool::put_null(slots, q);
-            unchanged(
-                Handle::new(h.root, h.count - 1, h.capacity, h.records, h.slots),
-                Changed::Done,
-            )
+            unchanged(h.with_count(h.count - 1), Changed::Done)
         }
         Search::NotThere(visits) => unchanged(h, Changed::NotHeld(visits)),
         Search::OutOfRange => unchanged(h, Changed::OutOfRange),

@@ -27,8 +27,8 @@ returns c = rw (c .unchanged .ensures) (delete-none _ _ _ _ _ (sym (c .before .b
 put-null-requires : tie.Need-put-null-requires
 put-null-requires c κs = omega (arith, search-within _ _ _ _ _ (sym (c .before .before .before .before .before .before .find .ensures) ∙ c .before .before .before .before .q .given .1))
 
-new-requires : tie.Need-new-requires
-new-requires c κs = search needs
+with-count-requires : tie.Need-with-count-requires
+with-count-requires c κs = search needs
 
 unchanged-requires-2 : tie.Need-unchanged-requires-2
 unchanged-requires-2 c κs = search needs
@@ -64,7 +64,7 @@ returns-2 : tie.Need-returns-2
 unfolding changed
 returns-2 c =
     let p = c .before .before .before .before .before in
-    rw (c .unchanged2 .ensures, c .before .new .ensures) (delete-done _ _ _ _ _ (sym (p .before .before .before .before .before .before .before .find .ensures) ∙ p .before .before .before .before .before .q .given .1) (omega arith) _ (p .put-null .ensures))
+    rw (c .unchanged2 .ensures, c .before .with-count .ensures) (delete-done _ _ _ _ _ (sym (p .before .before .before .before .before .before .before .find .ensures) ∙ p .before .before .before .before .before .q .given .1) (omega arith) _ (p .put-null .ensures))
 
 same-length-3 : tie.Need-same-length-3
 same-length-3 c = search needs
@@ -113,7 +113,7 @@ delete-spec =
     same-length
     returns
     put-null-requires
-    new-requires
+    with-count-requires
     unchanged-requires-2
     enum-known-visits
     unchanged-requires-3
