@@ -9,6 +9,7 @@ use lib.Dec.{eqb}
 use lib.ListN.{length, getD, set}
 use lib.Seq.{set-getD}
 use borrow.Author.Tests.{eq-eqb, eqb-true, lt-ltb, le-leb}
+use Rattle.delete.specs.Deleting.{oneLess, deleteOf}
 use Rattle.laws.proofs.Tests.{both, true-not-false}
 use Rattle.laws.specs.Answers.{Answer, done, refusedWith, notHeld}
 use Rattle.laws.specs.Keys.{keyBound}
@@ -16,7 +17,7 @@ use Rattle.laws.specs.Pick.{pick}
 use Rattle.pool.specs.Memory.{Mem, mem}
 use Rattle.pool.specs.Writing.{putNull}
 use Rattle.store.proofs.Fitting.{Limits, fits-given}
-use Rattle.store.specs.Calls.{Call, call, searchEnd, searchOf, answerBy, lookupOf, replaceOf, deleteOf, oneLess}
+use Rattle.store.specs.Calls.{Call, call, searchEnd, searchOf, answerBy, lookupOf, replaceOf}
 use Rattle.store.specs.declared.Handle.{Handle}
 use Rattle.store.specs.declared.Search.{Search}
 use Rattle.store.specs.declared.Search.the-variants.{At, NotThere}

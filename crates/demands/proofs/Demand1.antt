@@ -14,6 +14,7 @@ use Rattle.build.specs.declared.Built.the-variants.{At as BuiltAt, NoRoom}
 use Rattle.demands.proofs.Inserts.{insert-order, insert-keeps, insert-rebuilt, insert-untouched}
 use Rattle.demands.proofs.Refusals.{answers, pack-order, unpack-order, slot-order, model-order, load-order, lookup-order, replace-order, delete-order, band-order}
 use Rattle.demands.specs.Demand1.{Refuses, Keeps, KeepsOutput, KeepsPast, PassesOn, Demand1}
+use Rattle.delete.specs.Deleting.{deleteOf}
 use Rattle.desk.specs.Passing.{passSounding, passLoad, passLooked, passChange, passBand, passInsert}
 use Rattle.desk.specs.declared.LookedAnswer.{LookedAnswer}
 use Rattle.edge.specs.Passing.{passKey, passSlot, passModel}
@@ -26,7 +27,7 @@ use Rattle.listing.proofs.Listings.{listing-fits}
 use Rattle.listing.specs.Listing.{Listing, listing}
 use Rattle.pool.specs.Memory.{Mem, recordsIn, payloadWord}
 use Rattle.store.specs.Bands.{bandRules, bandItems, bandOut, bandOf}
-use Rattle.store.specs.Calls.{Call, call, searchOf, answerBy, replaceOf, deleteOf}
+use Rattle.store.specs.Calls.{Call, call, searchOf, answerBy, replaceOf}
 use Rattle.store.specs.Handles.{handleFits, noHandle}
 use Rattle.store.specs.Loading.{firstFault, loadFits, loadBuilt, loadTree, loadList, loadOf}
 use Rattle.store.specs.declared.Fault.{Fault}

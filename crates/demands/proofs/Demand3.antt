@@ -8,6 +8,7 @@ use Prim.Native.Nat.{ℕ, zero, suc, _+_, _<_, _≤_}
 use lib.Dec.{eqb, ltb, leb}
 use lib.ListN.{length, getD}
 use borrow.Author.Tests.{eqb-true, eqb-false, eq-eqb, ne-eqb, ltb-true, leb-true}
+use Rattle.delete.specs.Deleting.{oneLess, deleteOf}
 use Rattle.insert.specs.Inserting.{Insert, insertion, insertOf, scratchFits, notDue, putOff, tidied, wholeTree}
 use Rattle.laws.proofs.Tests.{both, and-true}
 use Rattle.laws.specs.Answers.{Answer, done, refused, refusedWith, damage}
@@ -18,7 +19,7 @@ use Rattle.pool.specs.Memory.{Mem}
 use Rattle.rebuild.specs.Rebuilding.{Scratch}
 use Rattle.store.proofs.Faults.{faultless-rises}
 use Rattle.store.specs.Bands.{Band, band, bandOf}
-use Rattle.store.specs.Calls.{Call, call, searchOf, lookupOf, replaceOf, deleteOf, oneLess}
+use Rattle.store.specs.Calls.{Call, call, searchOf, lookupOf, replaceOf}
 use Rattle.store.specs.Handles.{handleFits}
 use Rattle.store.specs.Loading.{loadFits, loadList, loadOf, firstFault}
 use Rattle.store.specs.declared.Fault.{Fault}

@@ -15,6 +15,7 @@ use Rattle.build.specs.declared.Built.{Built}
 use Rattle.build.specs.declared.Built.the-variants.{At as BuiltAt, NoRoom}
 use Rattle.demands.specs.Demand1.{Answers}
 use Rattle.demands.specs.Refusals.{Cause, refuse, refuseWith, firstCause, GoesBy, OneOf, packCauses, unpackCauses, slotCauses, modelCauses, isRange, isFall, placeOf, isRoomless, loadCauses, isDamage, holdsKey, pathTo, searchCauses, deleteCauses, bandCauses}
+use Rattle.delete.specs.Deleting.{oneLess, deleteOf}
 use Rattle.laws.proofs.Tests.{both, pick-and, true-not-false}
 use Rattle.laws.specs.Answers.{Answer, done, refused, refusedWith, wrongSizes, outOfRange, notRising, notHeld, noRoom, damage}
 use Rattle.laws.specs.Bytes.{keyBytes}
@@ -28,7 +29,7 @@ use Rattle.pool.specs.Memory.{Mem, mem, payloadWord}
 use Rattle.pool.specs.Writing.{putNull}
 use Rattle.sounding.specs.Studio.{depthInRange, numberInRange, packOf, unpackOf}
 use Rattle.store.specs.Bands.{bandItems, bandOut, bandOf}
-use Rattle.store.specs.Calls.{call, searchEnd, searchOf, answerBy, oneLess, lookupOf, replaceOf, deleteOf}
+use Rattle.store.specs.Calls.{call, searchEnd, searchOf, answerBy, lookupOf, replaceOf}
 use Rattle.store.specs.Handles.{handleFits}
 use Rattle.store.specs.Loading.{emptied, firstFault, loadFits, loadBuilt, loadTree, loadList, loadOf}
 use Rattle.store.specs.declared.Fault.{Fault}

@@ -7,6 +7,7 @@ use mathlib.Core.List.{List}
 use mathlib.Core.Path.{_≡_}
 use Prim.Native.Nat.{ℕ}
 use lib.IntN.{ℤ}
+use Rattle.delete.specs.Deleting.{deleteOf}
 use Rattle.desk.specs.Passing.{passSounding, passLoad, load, passLooked, passChange, change, passBand, listing, passInsert, insertion as deskInsertion}
 use Rattle.desk.specs.declared.ChangedAnswer.{ChangedAnswer}
 use Rattle.desk.specs.declared.InsertedAnswer.{InsertedAnswer}
@@ -31,7 +32,7 @@ use Rattle.sounding.specs.Studio.{packOf, packed, unpackOf, unpacked}
 use Rattle.sounding.specs.declared.Packed.{Packed}
 use Rattle.sounding.specs.declared.Unpacked.{Unpacked}
 use Rattle.store.specs.Bands.{band, bandOf, listed}
-use Rattle.store.specs.Calls.{call, lookupOf, replaceOf, deleteOf, looked, changed}
+use Rattle.store.specs.Calls.{call, lookupOf, replaceOf, looked, changed}
 use Rattle.store.specs.Loading.{loadOf, loaded}
 use Rattle.store.specs.declared.Changing.{Changing}
 use Rattle.store.specs.declared.Handle.{Handle}

@@ -14,6 +14,7 @@ use lib.Dec.{leb, eqb}
 use lib.IntN.{ℤ}
 use lib.ListN.{length, getD, drop, replicate}
 use Rattle.demands.specs.Refusals.{Cause, GoesBy, OneOf, packCauses, unpackCauses, slotCauses, modelCauses, loadCauses, searchCauses, deleteCauses, bandCauses, insertCauses, pathTo, tooDeep, rebuiltAt}
+use Rattle.delete.specs.Deleting.{deleteOf}
 use Rattle.desk.specs.Passing.{passSounding, passLoad, passLooked, passChange, passBand, passInsert}
 use Rattle.edge.specs.Passing.{passKey, passSlot, passModel}
 use Rattle.insert.specs.Inserting.{Insert, insertOf}
@@ -26,7 +27,7 @@ use Rattle.rebuild.specs.Rebuilding.{Scratch, scratch, keysWith}
 use Rattle.sounding.specs.Studio.{packOf, unpackOf}
 use Rattle.sounding.specs.declared.Sounding.{Sounding}
 use Rattle.store.specs.Bands.{Band, bandOf}
-use Rattle.store.specs.Calls.{Call, lookupOf, replaceOf, deleteOf}
+use Rattle.store.specs.Calls.{Call, lookupOf, replaceOf}
 use Rattle.store.specs.Handles.{noHandle}
 use Rattle.store.specs.Loading.{loadOf}
 use Rattle.store.specs.declared.Handle.{Handle}

@@ -9,6 +9,7 @@ use Prim.Native.Nat.{ℕ, _+_, _*_, _<_, _≤_, min}
 use lib.Dec.{ltb}
 use lib.ListN.{length, getD, take}
 use lib.Seq.{sets}
+use Rattle.delete.specs.Deleting.{oneLess}
 use Rattle.insert.specs.Inserting.{Insert, scratchFits, oneMoreAt}
 use Rattle.laws.specs.Answers.{Answer, done, refused, refusedWith, notHeld, noRoom, damage}
 use Rattle.laws.specs.Keys.{keyBound, Rising}
@@ -17,7 +18,7 @@ use Rattle.marks.specs.Used.{usedAt}
 use Rattle.pool.specs.Memory.{Mem, recordsIn, slotsIn, recordWords, slotWords, kindWord, kindUnit}
 use Rattle.rebuild.specs.Rebuilding.{Scratch, lastKey}
 use Rattle.store.specs.Bands.{Band, band}
-use Rattle.store.specs.Calls.{Call, call, oneLess}
+use Rattle.store.specs.Calls.{Call, call}
 use Rattle.store.specs.Handles.{newHandle, noHandle}
 use Rattle.store.specs.Loading.{emptied, loadFits}
 use Rattle.store.specs.declared.Handle.{Handle}

@@ -2,12 +2,13 @@
 -- the one whose definitions the public calls are proved to meet. Definitions only.
 use mathlib.Core.List.{List}
 use Prim.Native.Nat.{ℕ}
+use Rattle.delete.specs.Deleting.{deleteOf}
 use Rattle.insert.specs.Inserting.{Insert, insertOf}
 use Rattle.laws.specs.Answers.{Answer}
 use Rattle.pool.specs.Memory.{Mem}
 use Rattle.rebuild.specs.Rebuilding.{Scratch}
 use Rattle.store.specs.Bands.{Band, bandOf}
-use Rattle.store.specs.Calls.{Call, lookupOf, replaceOf, deleteOf}
+use Rattle.store.specs.Calls.{Call, lookupOf, replaceOf}
 use Rattle.store.specs.Loading.{loadOf}
 use Rattle.store.specs.declared.Handle.{Handle}
 

@@ -1,12 +1,13 @@
 // The desk library: every public call for a C or Rust host. Thin functions over the proved calls; include/soorqabiye_desk.h is
 // their C side.
 ghost use mathlib.Core.Path.{_≡_};
+ghost use Rattle.delete.specs.Deleting.{deleteOf};
 ghost use Rattle.insert.specs.Inserting.{insertOf};
 ghost use Rattle.pool.specs.Memory.{mem};
 ghost use Rattle.rebuild.specs.Rebuilding.{scratch};
 ghost use Rattle.sounding.specs.Studio.{unpackOf};
 ghost use Rattle.store.specs.Bands.{bandOf};
-ghost use Rattle.store.specs.Calls.{lookupOf, replaceOf, deleteOf};
+ghost use Rattle.store.specs.Calls.{lookupOf, replaceOf};
 ghost use Rattle.store.specs.Handles.{noHandle};
 ghost use Rattle.store.specs.Loading.{loadOf};
 ghost use Rattle.desk.specs.Passing.{passSounding, passLoad, load, passLooked, passChange, passChanging, change, passBand, listing, passInsert, passInserting, insertion};
@@ -216,7 +217,7 @@ pub extern "C" fn soorqabiye_delete(
     ensures { λ r. ⌜ change r (mem (now (nodes .entry)) (now (slots .exit)) (now (used .entry)))
         ≡ passChange (deleteOf h key (mem (now (nodes .entry)) (now (slots .entry)) (now (used .entry)))) ⌝ }
 {
-    passed(store::delete(h, key, nodes, slots, used))
+    passed(delete::delete(h, key, nodes, slots, used))
 }
 
 fn refused_list(number: u64) -> ListedAnswer

@@ -5,6 +5,7 @@ use mathlib.Core.Path.{_≡_, refl}
 use Prim.Native.Nat.{ℕ}
 use Rattle.build.specs.Building.{lowestRecord, lowestSlots, placeNode, payloadsTo, fillSlot, fillSlots, nodeOn, nodeWith, build}
 use Rattle.counters.specs.Counters.{oneMore, raisedIf, isDue, dueNode, dueIn, raiseElements, raiseConflicts, raiseNode, raise}
+use Rattle.delete.specs.Deleting.{deleteOf}
 use Rattle.insert.specs.Inserting.{scratchFits, settled, standing, slotAbove, tidyOf, pairEnds, soundDue, settleAt, settleOf, unlessFull, insertEnd, insertOf}
 use Rattle.laws.specs.Bytes.{littleEndian}
 use Rattle.lines.specs.Kinds.{kindOf}
@@ -21,7 +22,7 @@ use Rattle.pool.specs.Reading.{nodeIn, nodeFits, nodeAt, slotSays, slotAt}
 use Rattle.pool.specs.Writing.{putNode, putData, putChild, zeroRun}
 use Rattle.rebuild.specs.Pairs.{pairOf, pairIf}
 use Rattle.store.specs.Bands.{bandItems, bandOut, bandOf}
-use Rattle.store.specs.Calls.{searchEnd, searchOf, lookupOf, deleteOf}
+use Rattle.store.specs.Calls.{searchEnd, searchOf, lookupOf}
 use Rattle.store.specs.Handles.{limitsHold, poolsAre, handleFits}
 use Rattle.store.specs.Loading.{faultFrom, firstFault, emptied, loadFits, loadBuilt, loadTree, loadList, loadOf}
 use Rattle.walk.specs.Events.{firstIn, lastIn, countIn, inSlot, inSlots, inRecord, tooLong, eventsAt, eventsOf}

@@ -3,6 +3,7 @@ use mathlib.Core.List.{List}
 use mathlib.Core.Path.{_≡_, refl, sym, ap, _∙_}
 use Prim.Native.Nat.{ℕ, zero, suc}
 use denote.Enum.Declared.{tagOf}
+use Rattle.delete.specs.Deleting.{deleteOf}
 use Rattle.insert.specs.Inserting.{Insert, insertOf}
 use Rattle.lines.specs.Lines.{Text, write}
 use Rattle.lines.specs.declared.Operation.{Operation}
@@ -11,7 +12,7 @@ use Rattle.lines.proofs.Operation.{the-type}
 use Rattle.pool.specs.Memory.{Mem}
 use Rattle.rebuild.specs.Rebuilding.{Scratch}
 use Rattle.store.specs.Bands.{Band, bandOf}
-use Rattle.store.specs.Calls.{Call, lookupOf, replaceOf, deleteOf}
+use Rattle.store.specs.Calls.{Call, lookupOf, replaceOf}
 use Rattle.store.specs.declared.Handle.{Handle}
 use Rattle.operations.specs.Printing.{answerLine, bandLines}
 use Rattle.operations.specs.Stepping.{State, state, Step, step, firstKey, secondKey, payload, stepOf, Stepped, stepped, writeStep}

@@ -3,6 +3,7 @@
 use mathlib.Core.List.{List}
 use Prim.Native.Nat.{ℕ}
 use lib.ListN.{drop}
+use Rattle.delete.specs.Deleting.{deleteOf}
 use Rattle.insert.specs.Inserting.{Insert, insertOf}
 use Rattle.laws.specs.Bytes.{littleEndian, keyBytes}
 use Rattle.lines.specs.Kinds.{payloadBytes}
@@ -12,7 +13,7 @@ use Rattle.lines.specs.declared.Operation.the-variants.{Insert as Inserts, Dele
 use Rattle.pool.specs.Memory.{Mem}
 use Rattle.rebuild.specs.Rebuilding.{Scratch}
 use Rattle.store.specs.Bands.{Band, bandOf}
-use Rattle.store.specs.Calls.{Call, lookupOf, replaceOf, deleteOf}
+use Rattle.store.specs.Calls.{Call, lookupOf, replaceOf}
 use Rattle.store.specs.declared.Handle.{Handle}
 use Rattle.operations.specs.Printing.{answerLine, bandLines}
 

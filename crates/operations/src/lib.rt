@@ -2,12 +2,13 @@
 ghost use mathlib.Core.Path.{_≡_};
 ghost use Prim.Native.Nat.{_+_, _*_, _≤_};
 ghost use lib.ListN.{length};
+ghost use Rattle.delete.specs.Deleting.{deleteOf};
 ghost use Rattle.lines.specs.Kinds.{bodyLength};
 ghost use Rattle.lines.specs.Lines.{longestLine, text, write};
 ghost use Rattle.pool.specs.Memory.{mem};
 ghost use Rattle.rebuild.specs.Rebuilding.{scratch};
 ghost use Rattle.store.specs.Bands.{bandOf, listed};
-ghost use Rattle.store.specs.Calls.{lookupOf, replaceOf, deleteOf, looked, changed};
+ghost use Rattle.store.specs.Calls.{lookupOf, replaceOf, looked, changed};
 ghost use Rattle.insert.specs.Inserting.{insertOf, inserted};
 ghost use Rattle.operations.specs.Printing.{answerLine, elementLines, bandLines};
 ghost use Rattle.operations.specs.Sessions.{longestList, longestAnswer};
@@ -144,7 +145,7 @@ fn delete(
         ≡ write (text (now (out .entry)) at) (answerLine 2 (deleteOf h key (mem (now (nodes .entry)) (now (slots .entry)) (now (used .entry))) .answer)) ⌝ }
     ensures { λ r. ⌜ (r .at ≤ at + longestLine) × (length (now (out .exit)) ≡ length (now (out .entry))) ⌝ }
 {
-    let c = store::delete(h, key, nodes, slots, used);
+    let c = delete::delete(h, key, nodes, slots, used);
     let handle = c.handle;
     let answer = c.answer;
     let Changed::Done = answer else {

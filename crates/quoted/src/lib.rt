@@ -82,7 +82,7 @@ pub fn replace(
 pub fn delete(h: Handle, key: u64, nodes: &[u64], slots: &mut [u64], used: &[u64]) -> Changing
     ensures { λ r. ⌜ Delete h key (now (nodes .entry)) (now (slots .entry)) (now (used .entry)) (record { r = r; slots = now (slots .exit) }) ⌝ }
 {
-    store::delete(h, key, nodes, slots, used)
+    delete::delete(h, key, nodes, slots, used)
 }
 
 pub fn band(

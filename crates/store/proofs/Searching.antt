@@ -1,20 +1,19 @@
 -- The search that lookup, replace and delete begin with: a law for each way out, that the slot found is one of the pool's, and
--- each call as what it makes of the search. Assumes nothing.
+-- lookup and replace as what they make of the search. Assumes nothing.
 use mathlib.Core.Bool.{Bool, true, false}
 use mathlib.Core.List.{List, [], _∷_}
 use mathlib.Core.Path.{_≡_, refl, sym, ap, subst, _∙_}
 use Prim.Native.Nat.{ℕ, _<_, _≤_}
 use native.Mathlib.Omega.{arith}
-use borrow.Author.Tests.{eq-eqb, ne-eqb, lt-ltb, le-ltb, le-leb, lt-leb}
-use lib.Dec.{ltb, leb, eqb}
+use borrow.Author.Tests.{eq-eqb, ne-eqb, lt-ltb, le-ltb}
+use lib.Dec.{ltb, eqb}
 use lib.ListN.{length, getD, set}
 use Rattle.laws.proofs.Tests.{both}
-use Rattle.laws.specs.Answers.{Answer, done, refused, damage}
+use Rattle.laws.specs.Answers.{Answer, done}
 use Rattle.laws.specs.Keys.{keyBound}
 use Rattle.laws.specs.Pick.{pick}
 use Rattle.pool.specs.Memory.{Mem, mem, payloadWord, slotsIn}
-use Rattle.pool.specs.Writing.{putNull}
-use Rattle.store.specs.Calls.{Call, call, searchEnd, searchOf, answerBy, lookupOf, replaceOf, oneLess, deleteOf}
+use Rattle.store.specs.Calls.{Call, call, searchEnd, searchOf, answerBy, lookupOf, replaceOf}
 use Rattle.store.specs.Handles.{handleFits}
 use Rattle.store.specs.declared.Handle.{Handle}
 use Rattle.store.specs.declared.Search.{Search}
@@ -76,17 +75,3 @@ module _ (h : Handle) (k : ℕ) (m : Mem) where
     pub replace-by : (p : ℕ) → answerBy (λ a. call a h m) (λ q v. call (done []) h (mem (m .nodes) (set (m .slots) (payloadWord q) p) (m .used))) s ≡ replaceOf h k p m
     unfolding replaceOf
     replace-by p = rw e
-
-    pub delete-by : answerBy (λ a. call a h m)
-        (λ q v. pick (leb 1 (h .count)) (call (done []) (oneLess h) (mem (m .nodes) (putNull (m .slots) q) (m .used))) (call (refused damage) h m)) s
-        ≡ deleteOf h k m
-    unfolding deleteOf
-    delete-by = rw e
-
-  -- a delete that found its key: with a count of 0 it is damage, else the slot becomes NULL
-  module _ (q v : ℕ) (e : searchOf h k m ≡ At q v) where
-    pub delete-none : h .count < 1 → call (refused damage) h m ≡ deleteOf h k m
-    delete-none lt = rw (lt-leb 1 (h .count) lt) at (delete-by (At q v) (sym e))
-
-    pub delete-done : 1 ≤ h .count → (ss : List ℕ) → ss ≡ putNull (m .slots) q → call (done []) (oneLess h) (mem (m .nodes) ss (m .used)) ≡ deleteOf h k m
-    delete-done le ss f = rw f (rw (le-leb 1 (h .count) le) at (delete-by (At q v) (sym e)))

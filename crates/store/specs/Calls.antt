@@ -1,16 +1,15 @@
--- Lookup, replace and delete (document 01, "The calls" and "Numbers of the answers"), on every input: the answer, the next
--- handle and every lent word. Refusals come in the order 1, 2, 9, 6. Definitions only.
+-- Lookup and replace (document 01, "The calls" and "Numbers of the answers"), on every input: the answer, the next handle and every
+-- lent word; and what delete shares with them. Refusals come in the order 1, 2, 9, 6. Definitions only.
 use mathlib.Core.Bool.{Bool}
 use mathlib.Core.List.{List, [], _∷_}
-use Prim.Native.Nat.{ℕ, _-_}
-use lib.Dec.{ltb, leb, eqb}
+use Prim.Native.Nat.{ℕ}
+use lib.Dec.{ltb, eqb}
 use lib.ListN.{length, getD, set}
 use Rattle.laws.specs.Answers.{Answer, done, refused, refusedWith, wrongSizes, outOfRange, notHeld, damage}
 use Rattle.laws.specs.Keys.{keyBound}
 use Rattle.laws.specs.Pick.{pick}
 use Rattle.pool.specs.Memory.{Mem, mem, payloadWord}
-use Rattle.pool.specs.Writing.{putNull}
-use Rattle.store.specs.Handles.{withCount, handleFits}
+use Rattle.store.specs.Handles.{handleFits}
 use Rattle.store.specs.declared.Changed.{Changed}
 use Rattle.store.specs.declared.Changed.the-variants.{Done, NotHeld as ChangeNotHeld, OutOfRange as ChangeOutOfRange, WrongSizes as ChangeWrongSizes, Damage as ChangeDamage}
 use Rattle.store.specs.declared.Handle.{Handle}
@@ -60,20 +59,6 @@ lookupOf h k m = answerBy (λ a. a) (λ q v. done (getD (m .slots) (payloadWord 
 unfoldable pub replaceOf : Handle → ℕ → ℕ → Mem → Call
 replaceOf h k p m =
     answerBy (λ a. call a h m) (λ q v. call (done []) h (mem (m .nodes) (set (m .slots) (payloadWord q) p) (m .used))) (searchOf h k m)
-
--- the handle with one key less
-abbrev pub oneLess : Handle → Handle
-oneLess h = withCount (h .count - 1) h
-
--- "makes the slot NULL and lowers the count of keys; counters and nodes stay"; damage: "in a delete that found its key a count of 0"
-unfoldable pub deleteOf : Handle → ℕ → Mem → Call
-deleteOf h k m =
-    answerBy (λ a. call a h m)
-    (λ q v.
-    pick (leb 1 (h .count))
-    (call (done []) (oneLess h) (mem (m .nodes) (putNull (m .slots) q) (m .used)))
-    (call (refused damage) h m))
-    (searchOf h k m)
 
 -- what each case of the code's answers is in document 01
 unfoldable pub looked : Looked → Answer ℕ

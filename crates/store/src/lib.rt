@@ -1,7 +1,7 @@
 // The store: the handle and the public calls.
 ghost use mathlib.Core.Path.{_≡_};
 ghost use Rattle.pool.specs.Memory.{mem};
-ghost use Rattle.store.specs.Calls.{call, searchOf, lookupOf, replaceOf, deleteOf, looked, changed};
+ghost use Rattle.store.specs.Calls.{call, searchOf, lookupOf, replaceOf, looked, changed};
 ghost use Prim.Native.Nat.{_≤_};
 ghost use Rattle.store.specs.Loading.{firstFault, emptied, loadFits, loadTree, loadOf, loaded, Loadable, Roomy};
 ghost use Rattle.store.specs.Handles.{newHandle, withRoot, withCount, handleFits, limitsHold, poolsAre, mostRecords, mostPoolSlots};
@@ -119,6 +119,14 @@ pub struct Changing {
     pub handle: Handle,
 }
 
+impl Changing {
+    pub fn new(answer: Changed, handle: Handle) -> Self
+        ensures { λ r. ⌜ r ≡ record { answer = answer; handle = handle } ⌝ }
+    {
+        Self { answer, handle }
+    }
+}
+
 fn limits_hold(capacity: usize, records: usize, slots: usize) -> bool
     ensures { λ r. ⌜ r ≡ limitsHold capacity records slots ⌝ }
 {
@@ -181,7 +189,7 @@ pub enum Search {
 }
 
 // What lookup, replace and delete begin with.
-fn find(h: Handle, key: u64, nodes: &[u64], slots: &[u64], used: &[u64]) -> Search
+pub fn find(h: Handle, key: u64, nodes: &[u64], slots: &[u64], used: &[u64]) -> Search
     ensures { λ r. ⌜ r ≡ searchOf h key (mem (now (nodes .entry)) (now (slots .entry)) (now (used .entry))) ⌝ }
 {
     if !h.fits(nodes, slots, used) {
@@ -218,13 +226,6 @@ pub fn lookup(h: Handle, key: u64, nodes: &[u64], slots: &[u64], used: &[u64]) -
     }
 }
 
-// A refusal, with the handle as it was given.
-fn unchanged(h: Handle, answer: Changed) -> Changing
-    ensures { λ r. ⌜ r ≡ record { answer = answer; handle = h } ⌝ }
-{
-    Changing { answer, handle: h }
-}
-
 // Another payload for a key that is held.
 pub fn replace(
     h: Handle,
@@ -240,32 +241,12 @@ pub fn replace(
     match find(h, key, nodes, slots, used) {
         Search::At(q, _) => {
             slots[q * Node::SLOT_WORDS + 1] = payload;
-            unchanged(h, Changed::Done)
+            Changing::new(Changed::Done, h)
         }
-        Search::NotThere(visits) => unchanged(h, Changed::NotHeld(visits)),
-        Search::OutOfRange => unchanged(h, Changed::OutOfRange),
-        Search::WrongSizes => unchanged(h, Changed::WrongSizes),
-        Search::Damage => unchanged(h, Changed::Damage),
-    }
-}
-
-// A key that is held is gone: its slot becomes NULL and the count falls; counters and nodes stay.
-pub fn delete(h: Handle, key: u64, nodes: &[u64], slots: &mut [u64], used: &[u64]) -> Changing
-    ensures { λ r. ⌜ call (changed (r .answer)) (r .handle) (mem (now (nodes .entry)) (now (slots .exit)) (now (used .entry)))
-        ≡ deleteOf h key (mem (now (nodes .entry)) (now (slots .entry)) (now (used .entry))) ⌝ }
-{
-    match find(h, key, nodes, slots, used) {
-        Search::At(q, _) => {
-            if h.count < 1 {
-                return unchanged(h, Changed::Damage);
-            }
-            pool::put_null(slots, q);
-            unchanged(h.with_count(h.count - 1), Changed::Done)
-        }
-        Search::NotThere(visits) => unchanged(h, Changed::NotHeld(visits)),
-        Search::OutOfRange => unchanged(h, Changed::OutOfRange),
-        Search::WrongSizes => unchanged(h, Changed::WrongSizes),
-        Search::Damage => unchanged(h, Changed::Damage),
+        Search::NotThere(visits) => Changing::new(Changed::NotHeld(visits), h),
+        Search::OutOfRange => Changing::new(Changed::OutOfRange, h),
+        Search::WrongSizes => Changing::new(Changed::WrongSizes, h),
+        Search::Damage => Changing::new(Changed::Damage, h),
     }
 }
 

@@ -12,7 +12,7 @@ use Rattle.operations.proofs.delete.Reads as reads
 use Rattle.operations.proofs.delete.Lts as lts
 use Rattle.lines.proofs.line_of_one.Reads as line-of-one-reads
 use Rattle.operations.proofs.changed_number.Reads as changed-number-reads
-use Rattle.store.proofs.delete.Reads as delete-reads
+use Rattle.delete.proofs.delete.Reads as delete-reads
 
 delete-requires : tie.Need-delete-requires
 delete-requires c κs = search needs

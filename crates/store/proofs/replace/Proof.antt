@@ -26,46 +26,46 @@ mul-slots-2 c = omega (arith, search-within _ _ _ _ _ (sym (c .before .before .b
 slice-write-slots : tie.Need-slice-write-slots
 slice-write-slots c = omega (arith, search-within _ _ _ _ _ (sym (c .before .before .before .find .ensures) ∙ c .before .q .given .1))
 
-unchanged-requires : tie.Need-unchanged-requires
-unchanged-requires c κs = search needs
+new-requires : tie.Need-new-requires
+new-requires c κs = search needs
 
 enum-known-visits : tie.Need-enum-known-visits
 enum-known-visits c = search needs
 
-unchanged-requires-2 : tie.Need-unchanged-requires-2
-unchanged-requires-2 c κs = search needs
+new-requires-2 : tie.Need-new-requires-2
+new-requires-2 c κs = search needs
 
 enum-told : tie.Need-enum-told
 enum-told c = search needs
 
-unchanged-requires-3 : tie.Need-unchanged-requires-3
-unchanged-requires-3 c κs = search needs
+new-requires-3 : tie.Need-new-requires-3
+new-requires-3 c κs = search needs
 
 enum-told-2 : tie.Need-enum-told-2
 enum-told-2 c = search needs
 
-unchanged-requires-4 : tie.Need-unchanged-requires-4
-unchanged-requires-4 c κs = search needs
+new-requires-4 : tie.Need-new-requires-4
+new-requires-4 c κs = search needs
 
 enum-told-3 : tie.Need-enum-told-3
 enum-told-3 c = search needs
 
-unchanged-requires-5 : tie.Need-unchanged-requires-5
-unchanged-requires-5 c κs = search needs
+new-requires-5 : tie.Need-new-requires-5
+new-requires-5 c κs = search needs
 
 same-length : tie.Need-same-length
 same-length c = search needs
 
 returns : tie.Need-returns
 unfolding changed
-returns c = rw (c .unchanged .ensures) (replace-by _ _ _ _ (sym (c .before .before .q .given .1) ∙ c .before .before .before .before .find .ensures) _)
+returns c = rw (c .new .ensures) (replace-by _ _ _ _ (sym (c .before .before .q .given .1) ∙ c .before .before .before .before .find .ensures) _)
 
 same-length-2 : tie.Need-same-length-2
 same-length-2 c = search needs
 
 returns-2 : tie.Need-returns-2
 unfolding changed
-returns-2 c = rw (c .unchanged2 .ensures) (replace-by _ _ _ _ (sym (c .before .before .visits .given .1) ∙ c .before .before .before .before .find .ensures) _)
+returns-2 c = rw (c .new2 .ensures) (replace-by _ _ _ _ (sym (c .before .before .visits .given .1) ∙ c .before .before .before .before .find .ensures) _)
 
 same-length-3 : tie.Need-same-length-3
 same-length-3 c = search needs
@@ -75,7 +75,7 @@ unfolding changed
 returns-3 c =
     let r = c .before .before .before .find in
     let e : r .result ≡ OutOfRange = cc in
-    rw (c .unchanged3 .ensures) (replace-by _ _ _ OutOfRange (sym e ∙ r .ensures) _)
+    rw (c .new3 .ensures) (replace-by _ _ _ OutOfRange (sym e ∙ r .ensures) _)
 
 same-length-4 : tie.Need-same-length-4
 same-length-4 c = search needs
@@ -85,7 +85,7 @@ unfolding changed
 returns-4 c =
     let r = c .before .before .before .find in
     let e : r .result ≡ WrongSizes = cc in
-    rw (c .unchanged4 .ensures) (replace-by _ _ _ WrongSizes (sym e ∙ r .ensures) _)
+    rw (c .new4 .ensures) (replace-by _ _ _ WrongSizes (sym e ∙ r .ensures) _)
 
 same-length-5 : tie.Need-same-length-5
 same-length-5 c = search needs
@@ -95,7 +95,7 @@ unfolding changed
 returns-5 c =
     let r = c .before .before .before .find in
     let e : r .result ≡ Damage = cc in
-    rw (c .unchanged5 .ensures) (replace-by _ _ _ Damage (sym e ∙ r .ensures) _)
+    rw (c .new5 .ensures) (replace-by _ _ _ Damage (sym e ∙ r .ensures) _)
 
 pub replace-spec : {M : Type 1} → statement M
 replace-spec =
@@ -107,15 +107,15 @@ replace-spec =
     add-slots
     mul-slots-2
     slice-write-slots
-    unchanged-requires
+    new-requires
     enum-known-visits
-    unchanged-requires-2
+    new-requires-2
     enum-told
-    unchanged-requires-3
+    new-requires-3
     enum-told-2
-    unchanged-requires-4
+    new-requires-4
     enum-told-3
-    unchanged-requires-5
+    new-requires-5
     same-length
     returns
     same-length-2
