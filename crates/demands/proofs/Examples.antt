@@ -1,4 +1,4 @@
--- Good memory by computation: the loads of P1 and P4 and the inserts of P7 and P8 leave just the trees that are written down in
+-- Good memory by computation: the loads of P1 and of six keys (P4 with 1 for 0) and the inserts of P7 and P8 leave just the trees that are written down in
 -- specs/Examples, in just the words that are written down in specs/Soundings. What is no Good memory is proofs/Fields. Assumes nothing.
 use mathlib.Core.Bool.{true}
 use mathlib.Core.List.{List, [], _∷_}
@@ -21,12 +21,12 @@ use Rattle.store.specs.Calls.{Call, call}
 use Rattle.store.specs.Handles.{limitsHold, poolsAre}
 use Rattle.store.specs.Loading.{faultFrom, firstFault, emptied, loadFits, loadOf}
 use Rattle.demands.specs.Demand2.{loadTree, LoadLeaves, InsertLeaves}
-use Rattle.demands.specs.Examples.{p1Keys, p1Payloads, p1Old, p1Handle, p1Root, p1Slots, p7Handle, p7Root, p7Slots, p8Handle, p8Root, p8Slots, p4Keys, p4Payloads, p4Handle, p4Root, p4Slots}
+use Rattle.demands.specs.Examples.{p1Keys, p1Payloads, p1Old, p1Handle, p1Root, p1Slots, p7Handle, p7Root, p7Slots, p8Handle, p8Root, p8Slots, sixKeys, sixPayloads, sixHandle, sixRoot, sixSlots}
 use Rattle.demands.specs.Growing.{is as grown, growSlot, growSlots, growOn, growWith, grow}
 use Rattle.demands.specs.Paths.{pathB, pathF, belowB, belowF, graftB, graftF}
 use Rattle.demands.specs.Placed.{Head, Forest, sub, Good}
 use Rattle.demands.specs.Settling.{settles, dueB, dueF, insertT}
-use Rattle.demands.specs.Soundings.{oldPools, oldScratch, p1Pools, p4Pools, p7Pools, p8Pools}
+use Rattle.demands.specs.Soundings.{oldPools, oldScratch, p1Pools, sixPools, p7Pools, p8Pools}
 use Rattle.demands.proofs.Loads.{load-answers}
 use Rattle.demands.proofs.Settling.{insert-answers}
 use Rattle.demands.proofs.Soundings.{soundings}
@@ -35,32 +35,32 @@ pub p1-rises : Rising p1Keys
 unfolding faultFrom firstFault
 p1-rises = faultless-rises p1Keys refl
 
-pub p4-rises : Rising p4Keys
+pub six-rises : Rising sixKeys
 unfolding faultFrom firstFault
-p4-rises = faultless-rises p4Keys refl
+six-rises = faultless-rises sixKeys refl
 
 pub p1-fits : loadFits 5 p1Keys p1Payloads p1Old ≡ true
 unfolding limitsHold poolsAre loadFits
 p1-fits = refl
 
-pub p4-fits : loadFits 6 p4Keys p4Payloads oldPools ≡ true
+pub six-fits : loadFits 6 sixKeys sixPayloads oldPools ≡ true
 unfolding limitsHold poolsAre loadFits
-p4-fits = refl
+six-fits = refl
 
 -- the trees that document 01 describes over these keys, computed
 pub p1-tree : loadTree p1Keys p1Payloads p1Old ≡ grown (sub p1Root p1Slots) (p1Pools .used)
 unfolding slotsFor countAt spreadBelow spread modelAt leastFrom tOf emptyModel modelOf choiceOf slotOf keysTo usedAt markAt markRun firstFrom firstUnused freeRun lowestFrom lowestRun payloadsTo emptied growSlot growSlots growOn growWith grow
 p1-tree = refl
 
-pub p4-tree : loadTree p4Keys p4Payloads oldPools ≡ grown (sub p4Root p4Slots) (p4Pools .used)
+pub six-tree : loadTree sixKeys sixPayloads oldPools ≡ grown (sub sixRoot sixSlots) (sixPools .used)
 unfolding slotsFor countAt spreadBelow spread modelAt leastFrom tOf emptyModel modelOf choiceOf slotOf keysTo usedAt markAt markRun firstFrom firstUnused freeRun lowestFrom lowestRun payloadsTo emptied growSlot growSlots growOn growWith grow
-p4-tree = refl
+six-tree = refl
 
 p1-load : loadOf 5 p1Keys p1Payloads p1Old ≡ call (done []) p1Handle p1Pools
 p1-load = soundings .1 .1 .1 .1 .1 .1 .1 .1 .1 .0
 
-p4-load : loadOf 6 p4Keys p4Payloads oldPools ≡ call (done []) p4Handle p4Pools
-p4-load = soundings .1 .1 .1 .1 .1 .1 .1 .1 .0
+six-load : loadOf 6 sixKeys sixPayloads oldPools ≡ call (done []) sixHandle sixPools
+six-load = soundings .1 .1 .1 .1 .1 .1 .1 .1 .1 .1 .1 .1 .1 .1 .1 .1 .1 .1 .1 .1 .1 .0
 
 loaded-good : (c : ℕ) (ks ps : List ℕ) (m : Mem) → loadFits c ks ps m ≡ true → length ks ≤ c → Rising ks → (t : Head) (g : Forest) (u : List ℕ) → loadTree ks ps m ≡ grown (sub t g) u
     → (x : Call) → loadOf c ks ps m ≡ x → Good (x .handle) (x .memory) t g
@@ -69,8 +69,8 @@ loaded-good c ks ps m f l r t g u e x s = subst (λ (y : Call). Good (y .handle)
 pub p1-good : Good p1Handle p1Pools p1Root p1Slots
 p1-good = loaded-good 5 p1Keys p1Payloads p1Old p1-fits (omega arith) p1-rises p1Root p1Slots (p1Pools .used) p1-tree (call (done []) p1Handle p1Pools) p1-load
 
-pub p4-good : Good p4Handle p4Pools p4Root p4Slots
-p4-good = loaded-good 6 p4Keys p4Payloads oldPools p4-fits (omega arith) p4-rises p4Root p4Slots (p4Pools .used) p4-tree (call (done []) p4Handle p4Pools) p4-load
+pub six-good : Good sixHandle sixPools sixRoot sixSlots
+six-good = loaded-good 6 sixKeys sixPayloads oldPools six-fits (omega arith) six-rises sixRoot sixSlots (sixPools .used) six-tree (call (done []) sixHandle sixPools) six-load
 
 -- The inserts of P7 and P8 leave the trees that are written down, computed, in the words that are written down.
 pub scratch-fits : scratchFits 5 oldScratch ≡ true

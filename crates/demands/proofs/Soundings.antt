@@ -25,4 +25,4 @@ use Rattle.demands.specs.Soundings.{All, table}
 pub soundings : All table
 unfolding slotsFor countAt spreadBelow spread modelAt leastFrom tOf emptyModel modelOf choiceOf slotOf keysTo depthInRange numberInRange keyOf packOf usedAt markAt markRun firstFrom firstUnused freeRun lowestFrom lowestRun putNode putData putChild zeroRun lowestRecord lowestSlots placeNode payloadsTo fillSlot fillSlots nodeOn nodeWith build limitsHold poolsAre faultFrom firstFault emptied loadFits loadBuilt loadTree loadList loadOf inRange handleFits nodeIn nodeFits nodeAt slotSays slotAt firstIn lastIn countIn inSlot inSlots inRecord tooLong eventsAt eventsOf mayEnter mayHold items bandItems listing bandOut bandOf stepIn keySlot stepGood stepAt stepOf after walkFrom walkOf searchEnd searchOf lookupOf oneMore raisedIf isDue dueNode dueIn raiseElements raiseConflicts raiseNode raise scratchFits settled standing slotAbove tidyOf pairEnds soundDue settleAt settleOf unlessFull insertEnd insertOf pairOf pairIf
 soundings =
-    ((refl, refl), ((refl, refl), ((refl, refl), ((refl, refl), ((refl, refl), ((refl, refl), ((refl, refl), ((refl, refl), (refl, (refl, (refl, (refl, (refl, (refl, (refl, (refl, (refl, (refl, (refl, tt)))))))))))))))))))
+    ((refl, refl), ((refl, refl), ((refl, refl), ((refl, refl), ((refl, refl), ((refl, refl), ((refl, refl), ((refl, refl), (refl, (refl, (refl, (refl, (refl, (refl, (refl, (refl, (refl, (refl, (refl, ((refl, refl), ((refl, refl), (refl, tt))))))))))))))))))))))

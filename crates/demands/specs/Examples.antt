@@ -1,4 +1,4 @@
--- Placed trees with the pools that hold them: P4's store, and P1's before and after the insert of 25 (P7) or of 5 (P8); the words of the
+-- Placed trees with the pools that hold them: the store of six keys (P4 with 1 for 0), and P1's before and after the insert of 25 (P7) or of 5 (P8); the words of the
 -- pools are those of the worked cases (specs/Soundings). And for each field of Good a handle, pools and a tree that break this one field.
 -- Data only; that the first are Good is proofs/Examples, that the others break one field alone is proofs/Fields.
 use mathlib.Core.List.{List, [], _∷_}
@@ -63,22 +63,22 @@ p8Root = head 0 20 11 0 5 4 1
 abbrev pub p8Slots : Forest
 p8Slots = cons (sub (head 1 5 6 8 2 2 0) (pair 5 9 10 1)) (cons (leaf 20 2) (gap 4 (cons (leaf 30 3) (cons (leaf 40 4) nil))))
 
--- P4: 0, 100, 101, 102, 10000, 20000 in 3 records and 20 slots; "children at runs 12 and 16, their keys at slots 1 and 2"
-abbrev pub p4Keys : List ℕ
-p4Keys = 0 ∷ 100 ∷ 101 ∷ 102 ∷ 10000 ∷ 20000 ∷ []
+-- P4 with 1 for 0: 1, 100, 101, 102, 10000, 20000 in 3 records and 20 slots; "children at runs 12 and 16, their keys at slots 1 and 2"
+abbrev pub sixKeys : List ℕ
+sixKeys = 1 ∷ 100 ∷ 101 ∷ 102 ∷ 10000 ∷ 20000 ∷ []
 
-abbrev pub p4Payloads : List ℕ
-p4Payloads = 1 ∷ 2 ∷ 3 ∷ 4 ∷ 5 ∷ 6 ∷ []
+abbrev pub sixPayloads : List ℕ
+sixPayloads = 1 ∷ 2 ∷ 3 ∷ 4 ∷ 5 ∷ 6 ∷ []
 
-abbrev pub p4Handle : Handle
-p4Handle = newHandle 0 6 6 3 20
+abbrev pub sixHandle : Handle
+sixHandle = newHandle 0 6 6 3 20
 
-abbrev pub p4Root : Head
-p4Root = head 0 101 2 0 6 6 0
+abbrev pub sixRoot : Head
+sixRoot = head 0 101 2 0 6 6 0
 
-abbrev pub p4Slots : Forest
-p4Slots =
-    cons (sub (head 1 0 101 12 2 2 0) (pair 0 1 100 2))
+abbrev pub sixSlots : Forest
+sixSlots =
+    cons (sub (head 1 1 100 12 2 2 0) (pair 1 1 100 2))
     (cons (leaf 101 3) (gap 4 (cons (leaf 102 4) (gap 4 (cons (sub (head 2 10000 10001 16 2 2 0) (pair 10000 5 20000 6)) nil)))))
 
 -- What is no Good memory, field by field: P1's store with one thing wrong, and for `deep` a store of its own.

@@ -63,6 +63,16 @@ p4Pools =
     ∷ 0 ∷ 0 ∷ (2 ^ 48 + 10000) ∷ 5 ∷ (2 ^ 48 + 20000) ∷ 6 ∷ 0 ∷ 0 ∷ [])
     ((2 ^ 23 - 1) ∷ [])
 
+-- the same with 1 for 0
+abbrev pub sixPools : Mem
+sixPools =
+    mem
+    (101 ∷ 2 ∷ 12 ∷ 0 ∷ 6 ∷ 6 ∷ 0 ∷ 0 ∷ 1 ∷ 100 ∷ 4 ∷ 12 ∷ 2 ∷ 2 ∷ 0 ∷ 0 ∷ 10000 ∷ 10001 ∷ 4 ∷ 16 ∷ 2 ∷ 2 ∷ 0 ∷ 0 ∷ [])
+    ((2 * 2 ^ 48 + 1) ∷ 0 ∷ (2 ^ 48 + 101) ∷ 3 ∷ 0 ∷ 0 ∷ 0 ∷ 0 ∷ 0 ∷ 0 ∷ 0 ∷ 0 ∷ (2 ^ 48 + 102) ∷ 4 ∷ 0 ∷ 0 ∷ 0 ∷ 0 ∷ 0 ∷ 0 ∷ 0 ∷ 0 ∷ (2 * 2 ^ 48 + 2) ∷ 0
+    ∷ 0 ∷ 0 ∷ (2 ^ 48 + 1) ∷ 1 ∷ (2 ^ 48 + 100) ∷ 2 ∷ 0 ∷ 0
+    ∷ 0 ∷ 0 ∷ (2 ^ 48 + 10000) ∷ 5 ∷ (2 ^ 48 + 20000) ∷ 6 ∷ 0 ∷ 0 ∷ [])
+    ((2 ^ 23 - 1) ∷ [])
+
 -- P1's store in 2 records and 12 slots: the root at record 0 and slots 0 to 7
 abbrev pub p1Pools : Mem
 p1Pools =
@@ -129,4 +139,8 @@ table =
     -- P12: a load of nothing, and a band over it: none, no more
     ∷ loads 1 [] [] emptyPools (call (done []) (newHandle 0 0 1 1 64) nothing)
     ∷ lists (newHandle 0 0 1 1 64) 0 (2 ^ 48 - 1) nothing (3 ∷ []) (5 ∷ []) (band (done (0 ∷ 0 ∷ [])) (3 ∷ []) (5 ∷ []))
+    -- P4 with 1 for 0: model and slots, its lower child, places
+    ∷ node (1 ∷ 100 ∷ 101 ∷ 102 ∷ 10000 ∷ 20000 ∷ []) 12 2 101 2 (0 ∷ 0 ∷ 1 ∷ 6 ∷ 11 ∷ 11 ∷ [])
+    ∷ node (1 ∷ 100 ∷ []) 4 0 1 100 (1 ∷ 2 ∷ [])
+    ∷ loads 6 (1 ∷ 100 ∷ 101 ∷ 102 ∷ 10000 ∷ 20000 ∷ []) (1 ∷ 2 ∷ 3 ∷ 4 ∷ 5 ∷ 6 ∷ []) oldPools (call (done []) (newHandle 0 6 6 3 20) sixPools)
     ∷ []

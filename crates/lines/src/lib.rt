@@ -4,7 +4,7 @@ ghost use mathlib.Core.List.{[], _∷_};
 ghost use Prim.Native.Nat.{_+_, _^_, _<_, _≤_};
 ghost use lib.ListN.{length, drop};
 ghost use Rattle.laws.specs.Bytes.{littleEndian};
-ghost use Rattle.lines.specs.Kinds.{kindOf};
+ghost use Rattle.lines.specs.Kinds.{payloadBytes, kindOf};
 ghost use Rattle.lines.specs.Lines.{digit, space, newline, decimal, spaced, line, longestLine, longestNumber, text, write};
 use laws::Key;
 
@@ -24,6 +24,11 @@ pub enum Kind {
 
 impl Kind {
     pub const PAYLOAD_BYTES: usize = 8;
+
+    // Nobody calls it: its contract says that the constant is that of the definitions.
+    pub fn limits()
+        ensures { λ _. do ⌜ (← ⟦Kind::PAYLOAD_BYTES⟧ .entry) ≡ payloadBytes ⌝ }
+    {}
 }
 
 pub fn kind_of(byte: u8) -> Kind

@@ -4,7 +4,7 @@ ghost use Rattle.pool.specs.Memory.{mem};
 ghost use Rattle.store.specs.Calls.{call, searchOf, lookupOf, replaceOf, looked, changed};
 ghost use Prim.Native.Nat.{_≤_};
 ghost use Rattle.store.specs.Loading.{firstFault, emptied, loadFits, loadTree, loadOf, loaded, Loadable, Roomy};
-ghost use Rattle.store.specs.Handles.{newHandle, withRoot, withCount, handleFits, limitsHold, poolsAre, mostRecords, mostPoolSlots};
+ghost use Rattle.store.specs.Handles.{newHandle, withRoot, withCount, handleFits, limitsHold, poolsAre, leastCapacity, mostCapacity, leastRecords, mostRecords, leastPoolSlots, mostPoolSlots};
 use build::Built;
 use build::Hint;
 use laws::Key;
@@ -37,6 +37,12 @@ impl Handle {
     pub const LEAST_SLOTS: usize = 4;
 
     pub const MOST_SLOTS: usize = 131072;
+
+    // Nobody calls it: its contract says that the constants are those of the definitions.
+    pub fn limits()
+        ensures { λ _. do ⌜ ((← ⟦Handle::LEAST_CAPACITY⟧ .entry) ≡ leastCapacity) × ((← ⟦Handle::MOST_CAPACITY⟧ .entry) ≡ mostCapacity) × ((← ⟦Handle::LEAST_RECORDS⟧ .entry) ≡ leastRecords) ⌝ }
+        ensures { λ _. do ⌜ ((← ⟦Handle::MOST_RECORDS⟧ .entry) ≡ mostRecords) × ((← ⟦Handle::LEAST_SLOTS⟧ .entry) ≡ leastPoolSlots) × ((← ⟦Handle::MOST_SLOTS⟧ .entry) ≡ mostPoolSlots) ⌝ }
+    {}
 
     pub fn new(root: usize, count: usize, capacity: usize, records: usize, slots: usize) -> Self
         ensures { λ r. ⌜ r ≡ newHandle root count capacity records slots ⌝ }
