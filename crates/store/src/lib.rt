@@ -1,4 +1,4 @@
-// The store: the handle and the public calls.
+// The store: the handle, load, lookup and replace, and how a key is found; band stands in bands.rt.
 ghost use mathlib.Core.Path.{_≡_};
 ghost use Rattle.pool.specs.Memory.{mem};
 ghost use Rattle.store.specs.Calls.{call, searchOf, lookupOf, replaceOf, looked, changed};
