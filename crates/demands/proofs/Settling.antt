@@ -18,10 +18,15 @@ use Rattle.laws.specs.Keys.{keyBound}
 use Rattle.laws.specs.Pick.{pick}
 use Rattle.model.proofs.Heights.{height-small}
 use Rattle.model.specs.Height.{height}
+use Rattle.pool.proofs.Growth.{Grows, grows-same}
 use Rattle.pool.specs.Memory.{Mem}
 use Rattle.pool.specs.Writing.{putData, putChild}
+use Rattle.rebuild.proofs.Grown.{pair-grows, afresh-grows}
+use Rattle.rebuild.proofs.Releases.{release-alone}
+use Rattle.rebuild.proofs.Soundness.{grown-release}
 use Rattle.rebuild.specs.Pairs.{pairOf, pairIf, pairGone}
 use Rattle.rebuild.specs.Rebuilding.{afresh, swapped, swap, inPlace, Scratch, rebuildOver, rebuildOf, soundBelow}
+use Rattle.rebuild.specs.Zeroing.{nodesBelow}
 use Rattle.store.proofs.Fitting.{Limits, fits-given}
 use Rattle.store.specs.declared.Handle.{Handle}
 use Rattle.walk.specs.Walks.{longestPath}
@@ -29,7 +34,7 @@ use Rattle.demands.specs.Demand2.{InsertLeaves, InsertAnswers}
 use Rattle.demands.specs.Growing.{Grown, is, noRoom}
 use Rattle.demands.specs.Map.{Map, EachKey, Rises, insert, member, keysOf, payloadsOf}
 use Rattle.demands.specs.Paths.{pathB, belowB}
-use Rattle.demands.specs.Placed.{Head, Branch, null, leaf, sub, Forest, flatB, flatF, depthB, Frame, plug, Follows, Good}
+use Rattle.demands.specs.Placed.{Head, Branch, null, leaf, sub, Forest, flatB, flatF, depthB, inB, Frame, plug, Follows, Good}
 use Rattle.demands.specs.Settling.{Settled, dueB, growOver, within, tidies, settleAt, settle, settlePair, whole, unlessFull, insertEnd}
 use Rattle.demands.specs.Stores.{ours}
 use Rattle.demands.proofs.Adding.{Fine, fine-of}
@@ -44,7 +49,7 @@ use Rattle.demands.proofs.Live.{LiveIn, keys-B, sound-below, keys-gathe
 use Rattle.demands.proofs.Plugs.{End, rises-B, deep-in}
 use Rattle.demands.proofs.Raising.{heads-in}
 use Rattle.demands.proofs.Reading.{Holds}
-use Rattle.demands.proofs.Removing.{release-removed}
+use Rattle.demands.proofs.Removing.{Removed, release-removed}
 use Rattle.demands.proofs.Standing.{Site, Taker, Above, live, stands-leaves, tidies-leaves, good-more}
 use Rattle.demands.proofs.Walking.{Kept, holds-all, placeOf, recordsOn, records-length, endTo, end-slot}
 use Rattle.demands.proofs.Ways.{path-plug, way-path, way-end}
@@ -115,6 +120,7 @@ module _ (h : Handle) (m : Mem) (t : Head) (g : Forest) (k p : ℕ) (f : Frame) 
   leaf-taker : Taker h m k p f c null false 0 (leaf k p) m
   unfolding settled pairGone putData
   leaf-taker = record {
+    grows = grows-same m;
     adds = adds-end (h .records) (h .slots) m (leaf k p) (fine-of (h .records) (h .slots) m _ (s .kept)) (λ x w. refl);
     okay = s .key;
     flat = refl;
@@ -170,15 +176,18 @@ module _ (h : Handle) (m : Mem) (t : Head) (g : Forest) (k p : ℕ) (f : Frame) 
   jb : j < keyBound
   jb = okay-end (h .records) (h .slots) (f ∷ c) (leaf j q) (s .kept .okay)
 
-  pair-taker : (x : Out) (t′ : Head) (g′ : Forest) → depthB (sub t′ g′) ≤ 1 → BuiltAs (h .records) (h .slots) longestPath m (insert k p ((j, q) ∷ [])) t′ g′ (x .memory) → Taker h m k p f c (leaf j q) true (t′ .at) (sub t′ g′) (x .memory)
+  pair-taker : (x : Out) (t′ : Head) (g′ : Forest) → depthB (sub t′ g′) ≤ 1 → BuiltAs (h .records) (h .slots) longestPath m (insert k p ((j, q) ∷ [])) t′ g′ (x .memory) → Grows m (x .memory) → Taker h m k p f c (leaf j q) true (t′ .at) (sub t′ g′) (x .memory)
   unfolding settled pairGone putChild
-  pair-taker x t′ g′ d a = record {
+  pair-taker x t′ g′ d a o = record {
     adds = a .adds;
+    grows = o;
     okay = a .okay;
     flat = a .flat;
     deep = omega arith;
     slot = refl;
-    goes = λ o fine hold. release-removed (h .records) (h .slots) 1 t′ g′ o fine (a .okay) hold d;
+    goes = λ y fine hold.
+        subst (λ (w : Mem). Removed (h .records) (h .slots) y w (λ v φ. inB (h .records) φ v (sub t′ g′))) (release-alone (t′ .at) y)
+        (release-removed (h .records) (h .slots) 1 t′ g′ y fine (a .okay) hold d);
   }
 
   abbrev G : Fresh
@@ -187,24 +196,28 @@ module _ (h : Handle) (m : Mem) (t : Head) (g : Forest) (k p : ℕ) (f : Frame) 
   abbrev i : ℕ
   i = dueB true k (sub t g)
 
-  pair-ends : (x : Out) (w : Grown) → growOver h (m .used) (insert k p ((j, q) ∷ [])) ≡ w → Agrees (h .records) (h .slots) longestPath m (insert k p ((j, q) ∷ [])) w x
+  pair-ends : (x : Out) (w : Grown) → growOver h (m .used) (insert k p ((j, q) ∷ [])) ≡ w → Agrees (h .records) (h .slots) longestPath m (insert k p ((j, q) ∷ [])) w x → Grows m (x .memory)
       → InsertLeaves h m g k p (pairEnds h G i (slotAbove (m .nodes) (recordsOn (f ∷ c)) k i) m z (x .built) (x .memory)) (settlePair h (sub t g) k p w)
   unfolding pairEnds
-  pair-ends x (is null u) e a = absurd a
-  pair-ends x (is (leaf l v) u) e a = absurd a
-  pair-ends x (is (sub t′ g′) u) e a =
+  pair-ends x (is null u) e a o = absurd a
+  pair-ends x (is (leaf l v) u) e a o = absurd a
+  pair-ends x (is (sub t′ g′) u) e a o =
       rw (a .0) (subst (λ (y : List ℕ). InsertLeaves h m g k p (tidyOf h G i (slotAbove (m .nodes) (recordsOn (f ∷ c)) k i) (t′ .at) m (x .memory) z) (settleAt h (sub t g) k p true i (sub t′ g′) y)) (a .1)
-      (tidy-leaves h m t g k p f c (leaf j q) s true (t′ .at) (sub t′ g′) (x .memory) (pair-taker x t′ g′ (pair-flat h m k p j q fine0 (s .key) jb ne (sub t′ g′) u e) (a .2)) j z i))
-  pair-ends x noRoom e a = rw a (refl, refl, refl)
+      (tidy-leaves h m t g k p f c (leaf j q) s true (t′ .at) (sub t′ g′) (x .memory) (pair-taker x t′ g′ (pair-flat h m k p j q fine0 (s .key) jb ne (sub t′ g′) u e) (a .2) o) j z i))
+  pair-ends x noRoom e a o = rw a (refl, refl, refl)
 
   held-is : heldPayload G m ≡ q
   held-is = end-slot (h .records) (h .slots) m (leaf j q) c f (holds-all (h .records) (h .slots) m _ (s .kept)) 1 (omega arith)
+
+  pair-grown : Grows m (pairOf k p j q m .memory)
+  unfolding pairIf
+  pair-grown = pair-grows true k p j q m
 
   pub pair-leaves : InsertLeaves h m g k p (settleOf h G m z) (settlePair h (sub t g) k p (growOver h (m .used) (insert k p ((j, q) ∷ []))))
   unfolding settleOf settleAtOf pairIf
   pair-leaves =
       subst⁻¹ (λ (y : ℕ). InsertLeaves h m g k p (settleAtOf h G y m z) (settlePair h (sub t g) k p (growOver h (m .used) (insert k p ((j, q) ∷ []))))) (due-is h m t g k p f c (leaf j q) s true)
-      (rw (sound-at h m t g k p f c (leaf j q) s i, held-is) (pair-ends (pairOf k p j q m) (growOver h (m .used) (insert k p ((j, q) ∷ []))) refl (pair-agrees h m k p j q fine0 (s .key) jb ne)))
+      (rw (sound-at h m t g k p f c (leaf j q) s i, held-is) (pair-ends (pairOf k p j q m) (growOver h (m .used) (insert k p ((j, q) ∷ []))) refl (pair-agrees h m k p j q fine0 (s .key) jb ne) pair-grown))
 
 -- "where the path already has 24 nodes, the whole tree is built afresh"
 module _ (h : Handle) (m : Mem) (t : Head) (g : Forest) (k p : ℕ) (f : Frame) (c : List Frame) (b : Branch) (s : Site h m t g k f c b) (z : Scratch) where
@@ -236,26 +249,27 @@ module _ (h : Handle) (m : Mem) (t : Head) (g : Forest) (k p : ℕ) (f : Frame) 
   agrees0 =
       afresh-agrees RR SS m (fine-of RR SS m _ kept0) L (insert-rises k p (flatF g) (rises-B RR SS (sub t g) (kept0 .okay))) (insert-all k p (λ x. x < keyBound) (s .key) (flatF g) (keys-B RR SS (sub t g) (kept0 .okay))) 0
 
-  gathered0 : rebuildOf (h .capacity) k p 0 (t .at) m z .out ≡ swap (t .at) m (afresh 0 (keysOf L) (payloadsOf L) m)
+  gathered0 : rebuildOf (h .capacity) k p 0 (t .at) m z .out ≡ swap (nodesBelow 0 (t .at) m) m (afresh 0 (keysOf L) (payloadsOf L) m)
   unfolding rebuildOf rebuildOver inPlace live0
   gathered0 = rw (keys-gathered RR SS m (h .capacity) k 0 t g live0 p, payloads-gathered RR SS m (h .capacity) k 0 t g live0 p)
 
-  whole-ends : (x : Out) (y : Scratch) (w : Grown) → Agrees RR SS longestPath m L w x → InsertLeaves h m g k p (wholeEnds h m (swap (t .at) m x .built) (swap (t .at) m x .memory) y) (whole w)
-  unfolding swapped wholeEnds kept0
-  whole-ends x y (is null u) a = absurd a
-  whole-ends x y (is (leaf l v) u) a = absurd a
-  whole-ends x y (is (sub t′ g′) u) a =
+  whole-ends : (x : Out) (y : Scratch) (w : Grown) → Agrees RR SS longestPath m L w x → Grows m (x .memory)
+      → InsertLeaves h m g k p (wholeEnds h m (swap (nodesBelow 0 (t .at) m) m x .built) (swap (nodesBelow 0 (t .at) m) m x .memory) y) (whole w)
+  unfolding swapped wholeEnds kept0 live0
+  whole-ends x y (is null u) a o = absurd a
+  whole-ends x y (is (leaf l v) u) a o = absurd a
+  whole-ends x y (is (sub t′ g′) u) a o =
       let hold : Holds RR (x .memory) (sub t g) = holds-added RR SS m (x .memory) (sub t g) (sub t′ g′) (holds-all RR SS m _ kept0) (a .2 .adds) in
       let gone = release-removed RR SS longestPath t g (x .memory) (a .2 .adds .fine) (kept0 .okay) hold (kept0 .deep) in
       let fine1 = fine-of RR SS m _ kept0 in
-      rw (a .0) (
+      rw (a .0, ← grown-release (h .capacity) k 0 (t .at) m (sound-below RR SS m (h .capacity) k 0 t g live0) (x .memory) o) (
         refl,
         refl,
         good-more h m t g k p f c b s (t′ .at) (release longestPath (x .memory) (t .at)) t′ g′ refl (a .2 .flat)
             (root-kept RR SS m m (x .memory) _ _ (sub t g) null (sub t′ g′) kept0 (a .2 .okay) (a .2 .deep) (adds-end RR SS m null fine1 (λ y w. refl)) (a .2 .adds) gone (drops-end RR SS _ null (gone .fine) (λ y w. refl))),
         a .2 .flat,
       )
-  whole-ends x y noRoom a = rw a (refl, refl, refl)
+  whole-ends x y noRoom a o = rw a (refl, refl, refl)
 
   pub whole-leaves : InsertLeaves h m g k p (wholeOf h k p m z) (whole (within 0 (growOver h (m .used) L)))
   unfolding wholeOf live0
@@ -263,7 +277,7 @@ module _ (h : Handle) (m : Mem) (t : Head) (g : Forest) (k p : ℕ) (f : Frame) 
       subst⁻¹ (λ (r : ℕ). InsertLeaves h m g k p (pick (soundBelow (h .capacity) k 0 r m) (wholeBy h m (rebuildOf (h .capacity) k p 0 r m z)) (insertion (refused 9) h m z)) (whole (within 0 (growOver h (m .used) L)))) (s .root)
       (rw (sound-below RR SS m (h .capacity) k 0 t g live0)
       (subst⁻¹ (λ (x : Out). InsertLeaves h m g k p (wholeEnds h m (x .built) (x .memory) (rebuildOf (h .capacity) k p 0 (t .at) m z .scratch)) (whole (within 0 (growOver h (m .used) L)))) gathered0
-      (whole-ends (afresh 0 (keysOf L) (payloadsOf L) m) (rebuildOf (h .capacity) k p 0 (t .at) m z .scratch) (within 0 (growOver h (m .used) L)) agrees0)))
+      (whole-ends (afresh 0 (keysOf L) (payloadsOf L) m) (rebuildOf (h .capacity) k p 0 (t .at) m z .scratch) (within 0 (growOver h (m .used) L)) agrees0 (afresh-grows 0 (keysOf L) (payloadsOf L) m))))
 
 -- two choices by one test
 either : (h : Handle) (m : Mem) (g : Forest) (k p : ℕ) (b : Bool) (x y : Insert) (v w : Settled) → (b ≡ true → InsertLeaves h m g k p x v) → (b ≡ false → InsertLeaves h m g k p y w) → InsertLeaves h m g k p (pick b x y) (pick b v w)

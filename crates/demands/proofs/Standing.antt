@@ -13,10 +13,14 @@ use Rattle.counters.specs.Counters.{raise}
 use Rattle.insert.specs.Inserting.{Fresh, fresh, settled, standing, hung, rootAt, replaced, tidyEnds, tidyBy, rebuildAt, oneMoreAt, putOff, tidied, asNumber}
 use Rattle.laws.proofs.Tests.{le-or-lt}
 use Rattle.laws.specs.Keys.{keyBound}
+use Rattle.pool.proofs.Growth.{Grows, grows-both}
 use Rattle.pool.specs.Memory.{Mem, mem}
 use Rattle.pool.specs.Writing.{putChild}
+use Rattle.rebuild.proofs.Grown.{afresh-grows}
+use Rattle.rebuild.proofs.Soundness.{grown-release}
 use Rattle.rebuild.specs.Pairs.{pairGone}
 use Rattle.rebuild.specs.Rebuilding.{afresh, swapped, swap, inPlace, Scratch, rebuildOver}
+use Rattle.rebuild.specs.Zeroing.{nodesBelow, zeroed}
 use Rattle.store.proofs.Fitting.{Limits}
 use Rattle.store.specs.declared.Handle.{Handle}
 use Rattle.walk.specs.Walks.{longestPath}
@@ -34,7 +38,7 @@ use Rattle.demands.proofs.Fitting.{kept-good}
 use Rattle.demands.proofs.Frames.{plug-app, follows-left, records-at, records-before, okay-follows}
 use Rattle.demands.proofs.Grafting.{holds-end, okay-end, graft-kept, root-kept, adds-end, drops-end, holds-added, holds-removed, holds-built}
 use Rattle.demands.proofs.Growing.{linkAt, Agrees, BuiltAs}
-use Rattle.demands.proofs.Live.{LiveIn, keys-B, keys-gathered, payloads-gathered}
+use Rattle.demands.proofs.Live.{LiveIn, keys-B, keys-gathered, payloads-gathered, sound-below}
 use Rattle.demands.proofs.Plugs.{End, flat-plug, all-left, all-right, pre-less, post-more, rises-B, deep-in}
 use Rattle.demands.proofs.Raising.{more}
 use Rattle.demands.proofs.Reading.{Holds, bit-small}
@@ -91,6 +95,7 @@ pub record Site (h : Handle) (m : Mem) (t : Head) (g : Forest) (k : ℕ) (f : Fr
 -- what takes the slot at the path's end: n, whose nodes are in m1; c is its record if it is a two-key node
 pub record Taker (h : Handle) (m : Mem) (k p : ℕ) (f : Frame) (c : List Frame) (b : Branch) (conflict : Bool) (r : ℕ) (n : Branch) (m1 : Mem) : Type 0 where
   pub adds : Added (h .records) (h .slots) m m1 (λ x φ. inB (h .records) φ x n)
+  pub grows : Grows m m1
   pub okay : OkB (h .records) (h .slots) n
   pub flat : flatB n ≡ insert k p (flatB b)
   pub deep : length (f ∷ c) + depthB n ≤ longestPath
@@ -242,7 +247,7 @@ module _ (h : Handle) (m : Mem) (t : Head) (g : Forest) (k p : ℕ) (f : Frame) 
       F other = fresh k p (placeOf f c) conflict other (recordsOn fs)
 
       -- what is built over: the keys of the memory given
-      gathered : (other : ℕ) (z : Scratch) → rebuildAt h (F other) i (here .head .at) m m1 z .out ≡ swap (here .head .at) m1 (afresh i (keysOf L) (payloadsOf L) m1)
+      gathered : (other : ℕ) (z : Scratch) → rebuildAt h (F other) i (here .head .at) m m1 z .out ≡ swap (nodesBelow i (here .head .at) m) m1 (afresh i (keysOf L) (payloadsOf L) m1)
       unfolding rebuildOver inPlace live
       gathered other z = rw (keys-gathered R S m (h .capacity) k i (here .head) oldRun live p, payloads-gathered R S m (h .capacity) k i (here .head) oldRun live p)
 
@@ -304,14 +309,19 @@ module _ (h : Handle) (m : Mem) (t : Head) (g : Forest) (k p : ℕ) (f : Frame) 
       top-is : getD (recordsOn fs) i 0 ≡ here .head .at
       top-is = ap (λ (x : List Frame). getD (recordsOn x) i 0) parts ∙ records-at fore aft here
 
+      -- the old nodes are those that the memory given has below the node
+      released : (m2 : Mem) → Grows m1 m2 → release longestPath m2 (here .head .at) ≡ zeroed (nodesBelow i (here .head .at) m) m2
+      released m2 grows =
+          grown-release (h .capacity) k i (here .head .at) m (sound-below R S m (h .capacity) k i (here .head) oldRun live) m2 (grows-both m m1 m2 (a .grows) grows)
+
       -- done or put off
-      ends : (other q : ℕ) (y : Scratch) (x : Out) (w : Grown) → Above fore q → within i (growOver h (m1 .used) L) ≡ w → Agrees R S longestPath m1 L w x
-          → InsertLeaves h m g k p (tidyEnds h (F other) i q r (swap (here .head .at) m1 x .built) (swap (here .head .at) m1 x .memory) y) (tidies h (sub t g) k p conflict i n w)
+      ends : (other q : ℕ) (y : Scratch) (x : Out) (w : Grown) → Above fore q → within i (growOver h (m1 .used) L) ≡ w → Agrees R S longestPath m1 L w x → Grows m1 (x .memory)
+          → InsertLeaves h m g k p (tidyEnds h (F other) i q r (swap (nodesBelow i (here .head .at) m) m1 x .built) (swap (nodesBelow i (here .head .at) m) m1 x .memory) y) (tidies h (sub t g) k p conflict i n w)
       unfolding swapped tidyEnds
-      ends other q y x (is null u) ab e j = absurd j
-      ends other q y x (is (leaf l v) u) ab e j = absurd j
-      ends other q y x (is (sub t′ g′) u) ab e j = rw (j .0) (replaced-leaves (x .memory) t′ g′ u (j .2) (within-deep i (growOver h (m1 .used) L) (sub t′ g′) u e) other q y ab)
-      ends other q y x noRoom ab e j = rw j (stands-leaves conflict r n m1 a other putOff y)
+      ends other q y x (is null u) ab e j o = absurd j
+      ends other q y x (is (leaf l v) u) ab e j o = absurd j
+      ends other q y x (is (sub t′ g′) u) ab e j o = rw (j .0, ← released (x .memory) o) (replaced-leaves (x .memory) t′ g′ u (j .2) (within-deep i (growOver h (m1 .used) L) (sub t′ g′) u e) other q y ab)
+      ends other q y x noRoom ab e j o = rw j (stands-leaves conflict r n m1 a other putOff y)
 
       pub tidies-leaves : (other q : ℕ) (z : Scratch) → Above fore q
           → InsertLeaves h m g k p (tidyBy h (F other) i q r (rebuildAt h (F other) i (getD (recordsOn fs) i 0) m m1 z)) (tidies h (sub t g) k p conflict i n (within i (growOver h (m1 .used) (insert k p (flatB (belowB (sub t g) i k))))))
@@ -319,4 +329,4 @@ module _ (h : Handle) (m : Mem) (t : Head) (g : Forest) (k p : ℕ) (f : Frame) 
           subst⁻¹ (λ (x : ℕ). InsertLeaves h m g k p (tidyBy h (F other) i q r (rebuildAt h (F other) i x m m1 z)) (tidies h (sub t g) k p conflict i n (within i (growOver h (m1 .used) (insert k p (flatB (belowB (sub t g) i k))))))) top-is
           (subst⁻¹ (λ (x : Branch). InsertLeaves h m g k p (tidyBy h (F other) i q r (rebuildAt h (F other) i (here .head .at) m m1 z)) (tidies h (sub t g) k p conflict i n (within i (growOver h (m1 .used) (insert k p (flatB x)))))) below-is
           (subst⁻¹ (λ (x : Out). InsertLeaves h m g k p (tidyEnds h (F other) i q r (x .built) (x .memory) (rebuildAt h (F other) i (here .head .at) m m1 z .scratch)) (tidies h (sub t g) k p conflict i n (within i (growOver h (m1 .used) L)))) (gathered other z)
-          (ends other q (rebuildAt h (F other) i (here .head .at) m m1 z .scratch) (afresh i (keysOf L) (payloadsOf L) m1) (within i (growOver h (m1 .used) L)) ab refl agrees)))
+          (ends other q (rebuildAt h (F other) i (here .head .at) m m1 z .scratch) (afresh i (keysOf L) (payloadsOf L) m1) (within i (growOver h (m1 .used) L)) ab refl agrees (afresh-grows i (keysOf L) (payloadsOf L) m1))))

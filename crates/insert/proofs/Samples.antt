@@ -5,7 +5,7 @@ use mathlib.Core.Path.{_≡_, refl}
 use Prim.Native.Nat.{ℕ, _+_, _*_, _^_, _-_}
 use lib.ListN.{replicate, set}
 use Rattle.build.specs.Building.{lowestRecord, lowestSlots, placeNode, payloadsTo, fillSlot, fillSlots, nodeOn, nodeWith, build}
-use Rattle.build.specs.Releasing.{dropNode, releaseSlot, releaseSlots, releaseRecord, release}
+use Rattle.build.specs.Releasing.{dropNode}
 use Rattle.build.specs.Sizes.{depthUnder, depthOf}
 use Rattle.counters.specs.Counters.{oneMore, raisedIf, isDue, dueNode, dueIn, raiseElements, raiseConflicts, raiseNode, raise}
 use Rattle.insert.specs.Inserting.{Insert, insertion, scratchFits, settled, standing, hung, replaced, tidyEnds, tidyOf, pairEnds, soundDue, settleAt, settleOf, unlessFull, insertEnd, insertOf}
@@ -20,6 +20,7 @@ use Rattle.pool.specs.Reading.{nodeIn, nodeFits, nodeAt, slotSays, slotAt}
 use Rattle.pool.specs.Writing.{putNode, putData, putChild, zeroRecord, zeroRun}
 use Rattle.rebuild.specs.Pairs.{pairOf, pairIf, pairGone}
 use Rattle.rebuild.specs.Rebuilding.{liveItems, soundBelow, lowerLive, upperLive, keysWith, payloadsWith, afresh, swapped, inPlace, Scratch, scratch, wiped, rebuildOver}
+use Rattle.rebuild.specs.Zeroing.{nodesMet, nodesBelow, nodeAlone, zeroed}
 use Rattle.store.specs.Calls.{Call, call, searchEnd, searchOf, lookupOf}
 use Rattle.store.specs.Handles.{newHandle, limitsHold, poolsAre, handleFits}
 use Rattle.store.specs.Loading.{faultFrom, firstFault, emptied, loadFits, loadBuilt, loadTree, loadList, loadOf}
@@ -116,5 +117,5 @@ refusals =
     × (inserts (p1 16 1) 5 16 ≡ unchanged noRoom (p1 16 1) 16)
 
 samples : P7 × P8 × root-tidied × tidying-put-off × refusals
-unfolding usedAt markAt clearAt markRun clearRun firstFrom firstUnused freeRun fullRun lowestFrom lowestRun slotsFor countAt spreadBelow spread modelAt leastFrom tOf modelOf keysTo slotOf inRange putNode putData putChild zeroRecord zeroRun nodeIn nodeFits nodeAt slotSays slotAt lowestRecord lowestSlots placeNode payloadsTo fillSlot fillSlots nodeOn nodeWith build dropNode releaseSlot releaseSlots releaseRecord release depthUnder depthOf firstIn lastIn countIn inSlot inSlots inRecord eventsAt eventsOf mayEnter mayHold items stepIn keySlot stepGood stepAt stepOf after walkFrom walkOf listing oneMore raisedIf isDue dueNode dueIn raiseElements raiseConflicts raiseNode raise pairOf pairIf pairGone liveItems soundBelow lowerLive upperLive keysWith payloadsWith afresh swapped inPlace wiped rebuildOver limitsHold poolsAre handleFits searchEnd searchOf lookupOf faultFrom firstFault emptied loadFits loadBuilt loadTree loadList loadOf scratchFits settled standing hung replaced tidyEnds tidyOf pairEnds soundDue settleAt settleOf unlessFull insertEnd insertOf
+unfolding usedAt markAt clearAt markRun clearRun firstFrom firstUnused freeRun fullRun lowestFrom lowestRun slotsFor countAt spreadBelow spread modelAt leastFrom tOf modelOf keysTo slotOf inRange putNode putData putChild zeroRecord zeroRun nodeIn nodeFits nodeAt slotSays slotAt lowestRecord lowestSlots placeNode payloadsTo fillSlot fillSlots nodeOn nodeWith build dropNode nodesMet nodesBelow nodeAlone zeroed depthUnder depthOf firstIn lastIn countIn inSlot inSlots inRecord eventsAt eventsOf mayEnter mayHold items stepIn keySlot stepGood stepAt stepOf after walkFrom walkOf listing oneMore raisedIf isDue dueNode dueIn raiseElements raiseConflicts raiseNode raise pairOf pairIf pairGone liveItems soundBelow lowerLive upperLive keysWith payloadsWith afresh swapped inPlace wiped rebuildOver limitsHold poolsAre handleFits searchEnd searchOf lookupOf faultFrom firstFault emptied loadFits loadBuilt loadTree loadList loadOf scratchFits settled standing hung replaced tidyEnds tidyOf pairEnds soundDue settleAt settleOf unlessFull insertEnd insertOf
 samples = (refl, (refl, refl), (refl, refl, refl, refl), refl, (refl, refl, refl, refl, refl, refl, refl))

@@ -24,29 +24,31 @@ use Rattle.laws.specs.Pick.{pick}
 use Rattle.pool.proofs.Growth.{Grows}
 use Rattle.pool.specs.Memory.{Mem, recordsIn}
 use Rattle.rebuild.proofs.Conflicts.{pair-roomless}
-use Rattle.rebuild.proofs.Grown.{pair-grows, grown-keys, grown-payloads}
+use Rattle.rebuild.proofs.Grown.{pair-grows, grown-sound, grown-nodes, grown-keys, grown-payloads}
 use Rattle.rebuild.specs.Judging.{Pooled, Gatherable, Rebuildable}
 use Rattle.rebuild.specs.Pairs.{PairFits, pairIf, pairOf}
 use Rattle.rebuild.specs.Rebuilding.{soundBelow, keysWith, payloadsWith, afresh, swapped, swap, inPlace, Scratch, Rebuilt, rebuilt, rebuildOver, rebuildOf}
+use Rattle.rebuild.specs.Zeroing.{Met, nodesBelow}
 use Rattle.store.specs.declared.Handle.{Handle}
 use Rattle.walk.specs.Walks.{longestPath}
 use Rattle.walk.specs.declared.Path.{Path}
 
-pub ready-rebuildable : (h : Handle) (k above : ℕ) (m : Mem) (s : Scratch) → Ready h k m s → above < longestPath → Rebuildable (h .capacity) k above m s
-ready-rebuildable h k above m s r lt = record {
+pub ready-rebuildable : (h : Handle) (k above top : ℕ) (m : Mem) (s : Scratch) → Ready h k m s → above < longestPath → soundBelow (h .capacity) k above top m ≡ true → Rebuildable (h .capacity) k above top m s
+ready-rebuildable h k above top m s r lt sound = record {
   gather = record { least = r .least; most = r .most; room = r .keys; same = r .payloads; is-key = r .is-key; high = lt };
   pools = r .pools;
   places = r .places;
+  sound = sound;
 }
 
 roomless-not-at : (r : ℕ) (b : Built) → b ≡ Roomless → b ≡ At r → ⊥
 roomless-not-at r b e f = let z : _≡_ {A = ℕ} 0 1 = cc in omega arith
 
 -- what a rebuild answers is what its build answers
-swap-same : (top : ℕ) (m : Mem) (b : Built) (after : Mem) → swapped top m b after .built ≡ b
+swap-same : (old : List Met) (m : Mem) (b : Built) (after : Mem) → swapped old m b after .built ≡ b
 unfolding swapped
-swap-same top m (At r) after = refl
-swap-same top m Roomless after = refl
+swap-same old m (At r) after = refl
+swap-same old m Roomless after = refl
 
 -- the new top node is one of the pool's records
 afresh-within : (above : ℕ) (ks ps : List ℕ) (m : Mem) (r : ℕ) → afresh above ks ps m .built ≡ At r → r < recordsIn (m .nodes)
@@ -61,20 +63,20 @@ unfolding rebuildOf rebuildOver inPlace
 rebuilt-within capacity k p above top m s r e =
     let ks = keysWith capacity k above top m in
     let ps = payloadsWith capacity k p above top m in
-    afresh-within above ks ps m r (sym (swap-same top m (afresh above ks ps m .built) (afresh above ks ps m .memory)) ∙ e)
+    afresh-within above ks ps m r (sym (swap-same (nodesBelow above top m) m (afresh above ks ps m .built) (afresh above ks ps m .memory)) ∙ e)
 
 -- a rebuild without room leaves the memory as it was
-swap-roomless : (top : ℕ) (m : Mem) (b : Built) (after : Mem) → b ≡ Roomless → swapped top m b after .memory ≡ m
+swap-roomless : (old : List Met) (m : Mem) (b : Built) (after : Mem) → b ≡ Roomless → swapped old m b after .memory ≡ m
 unfolding swapped
-swap-roomless top m (At r) after e = absurd (roomless-not-at r (At r) e refl)
-swap-roomless top m Roomless after e = refl
+swap-roomless old m (At r) after e = absurd (roomless-not-at r (At r) e refl)
+swap-roomless old m Roomless after e = refl
 
 pub rebuilt-roomless : (capacity k p above top : ℕ) (m : Mem) (s : Scratch) → rebuildOf capacity k p above top m s .out .built ≡ Roomless → rebuildOf capacity k p above top m s .out .memory ≡ m
 unfolding rebuildOf rebuildOver inPlace
 rebuilt-roomless capacity k p above top m s e =
     let ks = keysWith capacity k above top m in
     let ps = payloadsWith capacity k p above top m in
-    swap-roomless top m (afresh above ks ps m .built) (afresh above ks ps m .memory) (sym (swap-same top m (afresh above ks ps m .built) (afresh above ks ps m .memory)) ∙ e)
+    swap-roomless (nodesBelow above top m) m (afresh above ks ps m .built) (afresh above ks ps m .memory) (sym (swap-same (nodesBelow above top m) m (afresh above ks ps m .built) (afresh above ks ps m .memory)) ∙ e)
 
 -- the two-key node's record is a small number
 pub pair-within : (c : Bool) (a p b q : ℕ) (m : Mem) (r : ℕ) → Pooled m → pairIf c a p b q m .built ≡ At r → r < 2 ^ 48
@@ -127,8 +129,26 @@ tidy-before h f i above d m m′ s sound g =
     both (ltb i (length (f .path)))
     (λ e.
     let inside : soundBelow (h .capacity) (f .key) i (getD (f .path) i 0) m ≡ true = rw e at sound in
-    rw (e, grown-keys (h .capacity) (f .key) i (getD (f .path) i 0) m inside m′ g, grown-payloads (h .capacity) (f .key) i (getD (f .path) i 0) m inside m′ g (f .payload)))
+    rw (e, grown-nodes (h .capacity) (f .key) i (getD (f .path) i 0) m inside m′ g, grown-keys (h .capacity) (f .key) i (getD (f .path) i 0) m inside m′ g, grown-payloads (h .capacity) (f .key) i (getD (f .path) i 0) m inside m′ g (f .payload)))
     (λ e. rw e)
+
+-- what a tidying asks of its node
+pub node-sound : (capacity k : ℕ) (path : Path) → Sized path → (i : ℕ) (m : Mem) → i < path .len → soundDue capacity k (take (path .len) (path .nodes)) i m ≡ true
+    → soundBelow capacity k i (getD (path .nodes) i 0) m ≡ true
+unfolding soundDue
+node-sound capacity k path z i m lt e = rw (lt-ltb i (length (take (path .len) (path .nodes))) (omega (arith, path-length path z)), path-place path z i lt) at e
+
+-- the two-key node leaves it sound
+paired-grows : (c : Bool) (a p b q : ℕ) (m : Mem) (x : Built) (m′ : Mem) → out x m′ ≡ pairIf c a p b q m → Grows m m′
+paired-grows c a p b q m x m′ e = subst⁻¹ (Grows m) (ap (λ (o : Out). o .memory) e) (pair-grows c a p b q m)
+
+pub still-sound : (capacity k : ℕ) (path : List ℕ) (i : ℕ) (m : Mem) → soundDue capacity k path i m ≡ true
+    → (c : Bool) (a p b q : ℕ) (x : Built) (m′ : Mem) → out x m′ ≡ pairIf c a p b q m → soundDue capacity k path i m′ ≡ true
+unfolding soundDue
+still-sound capacity k path i m sound c a p b q x m′ e =
+    both (ltb i (length path))
+    (λ t. rw t (grown-sound capacity k i (getD path i 0) m (rw t at sound) m′ (paired-grows c a p b q m x m′ e)))
+    (λ t. rw t)
 
 -- the steps before it
 module _ (h : Handle) (k p q : ℕ) (c : Bool) (j : ℕ) (path : List ℕ) (m : Mem) (s : Scratch) (i : ℕ) (due : i ≡ dueIn (m .nodes) c path) where
@@ -150,12 +170,9 @@ module _ (h : Handle) (k p q : ℕ) (c : Bool) (j : ℕ) (path : List ℕ) (m : 
         let u : m′ ≡ m = ap (λ (o : Out). o .memory) pair ∙ pair-roomless c k p j (heldPayload (fresh k p q c j path) m) m f n in
         rw (e, u) (rw g at settle-is)
 
-    grown : Grows m m′
-    grown = subst⁻¹ (Grows m) (ap (λ (o : Out). o .memory) pair) (pair-grows c k p j (heldPayload (fresh k p q c j path) m) m)
-
     pub settle-tidy : (x : Insert) (d : ℕ) → b ≡ At d → x ≡ tidyOf h (fresh k p q c j path) i above d m′ m′ s → x ≡ settleOf h (fresh k p q c j path) m s
     unfolding pairEnds
-    settle-tidy x d g e = e ∙ tidy-before h (fresh k p q c j path) i above d m m′ s sound grown ∙ (rw g at settle-is)
+    settle-tidy x d g e = e ∙ tidy-before h (fresh k p q c j path) i above d m m′ s sound (paired-grows c k p j _ m b m′ pair) ∙ (rw g at settle-is)
 
 -- the whole tree
 module _ (h : Handle) (k p : ℕ) (m : Mem) (s : Scratch) (r : Inserting) where

@@ -17,6 +17,7 @@ use Rattle.pool.specs.Reading.{nodeIn}
 use Rattle.pool.specs.Writing.{putData, putChild}
 use Rattle.rebuild.specs.Pairs.{pairIf, pairGone}
 use Rattle.rebuild.specs.Rebuilding.{soundBelow, keysWith, payloadsWith, Scratch, Rebuilt, rebuildOver, rebuildOf}
+use Rattle.rebuild.specs.Zeroing.{nodesBelow}
 use Rattle.store.specs.Handles.{withRoot, withCount, handleFits}
 use Rattle.store.specs.declared.Handle.{Handle}
 use Rattle.walk.specs.Walks.{longestPath, keySlot, Walk, walkOf}
@@ -110,10 +111,11 @@ tidyEnds h f i q c Roomless m s = standing h f putOff c m s
 abbrev pub tidyBy : Handle → Fresh → ℕ → ℕ → ℕ → Rebuilt → Insert
 tidyBy h f i q c x = tidyEnds h f i q c (x .out .built) (x .out .memory) (x .scratch)
 
--- the node r at place i of the path built afresh in the memory m, over the live keys that it has in the memory before and the new one
+-- the node r at place i of the path built afresh in the memory m: over the live keys that it has in the memory before and the new one, and
+-- in place of the nodes that it has there
 abbrev pub rebuildAt : Handle → Fresh → ℕ → ℕ → Mem → Mem → Scratch → Rebuilt
 rebuildAt h f i r before m s =
-    rebuildOver i r (keysWith (h .capacity) (f .key) i r before) (payloadsWith (h .capacity) (f .key) (f .payload) i r before) m s
+    rebuildOver i (nodesBelow i r before) (keysWith (h .capacity) (f .key) i r before) (payloadsWith (h .capacity) (f .key) (f .payload) i r before) m s
 
 -- "Only the due node nearest the root is tidied": the one at place i, if there is one. Its keys are those of the memory before the two-key
 -- node has its places

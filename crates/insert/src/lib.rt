@@ -1,4 +1,5 @@
 // Insert: a key put in with its payload, and the due node nearest the root tidied.
+ghost use mathlib.Core.Bool.{true};
 ghost use mathlib.Core.Path.{_≡_};
 ghost use Prim.Native.Nat.{_^_, _<_, _≤_};
 ghost use lib.ListN.{take};
@@ -235,6 +236,7 @@ fn tidy(
 ) -> Inserting
     requires { ⌜ Ready h key (mem (now nodes) (now slots) (now used)) (scratch (now keys) (now payloads) (now places)) ⌝ }
     requires { ⌜ Stores q c at above path (mem (now nodes) (now slots) (now used)) ⌝ }
+    requires { ⌜ soundDue (h .capacity) key (take (path .len) (path .nodes)) at (mem (now nodes) (now slots) (now used)) ≡ true ⌝ }
     ensures { λ r. ⌜ insertion (inserted (r .answer)) (r .handle) (mem (now (nodes .exit)) (now (slots .exit)) (now (used .exit)))
         (scratch (now (keys .exit)) (now (payloads .exit)) (now (places .exit)))
         ≡ tidyOf h (fresh key payload q conflict other (take (path .len) (path .nodes))) at above c (mem (now (nodes .entry)) (now (slots .entry)) (now (used .entry)))

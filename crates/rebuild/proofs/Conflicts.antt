@@ -3,7 +3,7 @@
 use mathlib.Core.Bool.{Bool, true, false}
 use mathlib.Core.List.{List, [], _∷_}
 use mathlib.Core.Logic.{⊎-elim}
-use mathlib.Core.Path.{_≡_, refl}
+use mathlib.Core.Path.{_≡_, refl, _∙_}
 use Prim.Native.Nat.{ℕ, zero, suc, _+_, _<_, _≤_}
 use native.Mathlib.Omega.{arith}
 use borrow.Author.Tests.{lt-ltb, le-ltb, ltb-true, ltb-false}
@@ -26,6 +26,7 @@ use Rattle.model.specs.Height.{height}
 use Rattle.pool.specs.Memory.{Mem, recordsIn}
 use Rattle.pool.specs.declared.Node.{Node}
 use Rattle.rebuild.specs.Pairs.{pairOf, pairIf, pairGone, PairFits}
+use Rattle.rebuild.proofs.Releases.{release-alone}
 use Rattle.walk.specs.Walks.{longestPath}
 
 pub two-rise : (a b : ℕ) → a < b → b < keyBound → Rising (a ∷ b ∷ [])
@@ -64,7 +65,7 @@ pair-stays c r m e = rw e
 
 pub pair-goes : (c : Bool) (r : ℕ) (m n : Mem) → c ≡ true → n ≡ release 1 m r → n ≡ pairGone c r m
 unfolding pairGone
-pair-goes c r m n e f = rw e f
+pair-goes c r m n e f = rw e (f ∙ release-alone r m)
 
 -- slots with at most one key each need no child, so they always have room
 module _ (B : Builder) (r : ℕ) (node : Node) (ks : List ℕ) (few : (s : ℕ) → length (keysTo (node .model) s ks) ≤ 1) where

@@ -1,10 +1,10 @@
 -- Nodes dropped one after the other: the order makes no difference, and a node dropped twice is dropped once. So what is left after
 -- several hangs only on which they are. Assumes nothing.
 use mathlib.Core.Bool.{Bool, true, false, _&&_}
-use mathlib.Core.List.{List, [], _∷_, _++_}
-use mathlib.Core.Logic.{_⊎_, inl, inr, ⊎-elim}
+use mathlib.Core.List.{List}
+use mathlib.Core.Logic.{⊎-elim}
 use mathlib.Core.Path.{_≡_, refl, sym, ap, _∙_}
-use Prim.Native.Nat.{ℕ, zero, suc, _+_, _*_, _-_, _/_, _%_, _^_, _<_, _≤_}
+use Prim.Native.Nat.{ℕ, zero, suc, _+_, _*_, _-_, _/_, _%_, _^_, _<_}
 use native.Mathlib.Omega.{arith}
 use borrow.Author.Tests.{eqb-true, eqb-false, le-leb, lt-leb, lt-ltb, le-ltb}
 use lib.Dec.{eqb, leb, ltb}
@@ -15,9 +15,8 @@ use Rattle.laws.proofs.Tests.{both, le-or-lt}
 use Rattle.laws.specs.Pick.{pick}
 use Rattle.marks.proofs.Marks.{used-within, clear-same, clear-other}
 use Rattle.marks.specs.Used.{usedAt, clearAt, clearRun}
-use Rattle.pool.proofs.RecordStores.{length-zero-record}
 use Rattle.pool.proofs.Sets.{sets-before, sets-past, sets-zeros}
-use Rattle.pool.specs.Memory.{Mem, mem, loWord, kindWord, recordWords, slotWords, slotPlace}
+use Rattle.pool.specs.Memory.{Mem, loWord, kindWord, recordWords, slotWords, slotPlace}
 use Rattle.pool.specs.Writing.{zeroRecord, zeroRun}
 use Rattle.pool.specs.declared.Node.{Node}
 

@@ -16,6 +16,7 @@ use Rattle.pool.proofs.Growth.{Grows, grows-same, grows-payload}
 use Rattle.pool.specs.Memory.{Mem, recordsIn}
 use Rattle.rebuild.specs.Pairs.{pairOf, pairIf}
 use Rattle.rebuild.specs.Rebuilding.{rebuildRules, liveItems, lastKey, soundBelow, lowerLive, upperLive, payloadsIn, keysWith, payloadsWith, afresh}
+use Rattle.rebuild.specs.Zeroing.{nodesMet, nodesBelow}
 use Rattle.walk.proofs.Grown.{Unbroken, Marked, grown-events, grown-items, held-marked}
 use Rattle.walk.specs.Events.{eventsOf}
 use Rattle.walk.specs.Items.{items}
@@ -47,7 +48,7 @@ module _ (capacity k above top : ℕ) (m : Mem) (sound : soundBelow capacity k a
   abbrev rules : Rules
   rules = rebuildRules (recordsIn (m .nodes)) capacity k
 
-  live-unbroken : Unbroken (items m rules (eventsOf Whole m above top))
+  pub live-unbroken : Unbroken (items m rules (eventsOf Whole m above top))
   unfolding soundBelow liveItems
   live-unbroken = sound-unbroken m 0 lastKey capacity rules (eventsOf Whole m above top) refl (omega arith) sound
 
@@ -55,6 +56,11 @@ module _ (capacity k above top : ℕ) (m : Mem) (sound : soundBelow capacity k a
     -- the reading meets the same, and makes the same of it
     pub grown-reading : eventsOf Whole m′ above top ≡ eventsOf Whole m above top
     grown-reading = grown-events m m′ g Whole above top rules refl live-unbroken
+
+    -- so the nodes met are the same
+    pub grown-nodes : nodesBelow above top m′ ≡ nodesBelow above top m
+    unfolding nodesBelow
+    grown-nodes = ap nodesMet grown-reading
 
     pub grown-live : liveItems capacity k above top m′ ≡ liveItems capacity k above top m
     unfolding liveItems

@@ -2,7 +2,7 @@
 -- nothing.
 use mathlib.Core.Bool.{Bool, true, false}
 use mathlib.Core.List.{List, [], _++_}
-use mathlib.Core.Path.{_≡_, refl, sym, ap, _∙_}
+use mathlib.Core.Path.{_≡_, refl, sym, ap, subst, _∙_}
 use Prim.Native.Nat.{ℕ, _+_, _*_, _^_, _<_, _≤_}
 use native.Mathlib.Omega.{arith}
 use borrow.Author.Tests.{le-leb, lt-leb}
@@ -10,7 +10,7 @@ use lib.Dec.{leb}
 use lib.ListN.{length, getD, take, drop, replicate}
 use lib.Seq.{sets, sets-eq, length-sets, take-append-seam}
 use Rattle.build.proofs.Counting.{counts-depth-small}
-use Rattle.build.proofs.Kept.{build-nodes-length, build-slots-length, build-used-length}
+use Rattle.build.proofs.Kept.{build-grows, build-nodes-length, build-slots-length, build-used-length}
 use Rattle.build.proofs.NodeSizes.{sizes-few, sizes-slots}
 use Rattle.build.proofs.Rooms.{placing, fits-builds, lacks-refuses}
 use Rattle.build.proofs.Undoing.{wiped-same}
@@ -29,10 +29,13 @@ use Rattle.laws.specs.Keys.{Rising}
 use Rattle.laws.specs.Pick.{pick}
 use Rattle.model.proofs.Heights.{height-within}
 use Rattle.model.specs.Height.{height}
+use Rattle.pool.proofs.Growth.{Grows}
 use Rattle.pool.proofs.Sets.{sets-within, sets-past}
 use Rattle.pool.specs.Memory.{Mem, mem, recordsIn, slotsIn}
-use Rattle.rebuild.specs.Judging.{Pooled, Judgeable, Judges}
+use Rattle.rebuild.specs.Judging.{Pooled, Judgeable, Sound, Judges}
 use Rattle.rebuild.specs.Rebuilding.{afresh, swapped, swap, inPlace}
+use Rattle.rebuild.specs.Zeroing.{Met, nodesBelow, zeroed}
+use Rattle.rebuild.proofs.Soundness.{grown-release}
 use Rattle.walk.specs.Walks.{longestPath}
 
 -- values at the front of a list are its first
@@ -47,14 +50,14 @@ pub hinted-first : (m : Mem) → Hinted m (record { «record» = 0; slot = 0 })
 hinted-first m = record { record-within = omega arith; slot-within = omega arith; records-used = λ r h. absurd (omega arith); slots-used = λ q h. absurd (omega arith) }
 
 -- a build that has no room stores nothing
-swap-none : (top : ℕ) (m : Mem) (o : Out) → o .built ≡ NoRoom → swap top m o ≡ out NoRoom m
+swap-none : (old : List Met) (m : Mem) (o : Out) → o .built ≡ NoRoom → swap old m o ≡ out NoRoom m
 unfolding swapped
-swap-none top m o e = rw e
+swap-none old m o e = rw e
 
 -- once it has, the old nodes go
-swap-built : (top : ℕ) (m : Mem) (o : Out) (x : ℕ) → o .built ≡ At x → swap top m o ≡ out (o .built) (release longestPath (o .memory) top)
+swap-built : (old : List Met) (m : Mem) (o : Out) (x : ℕ) → o .built ≡ At x → swap old m o ≡ out (o .built) (zeroed old (o .memory))
 unfolding swapped
-swap-built top m o x e = rw e
+swap-built old m o x e = rw e
 
 module _ (above top : ℕ) (ks ps : List ℕ) (m : Mem) (places : List ℕ) (j : Judgeable ks ps m places) where
   enough : height (length ks) ≤ longestPath
@@ -108,16 +111,16 @@ module _ (above top : ℕ) (ks ps : List ℕ) (m : Mem) (places : List ℕ) (j :
       left-same : left ≡ m
       left-same = rw (q .used)
 
-      roomless : b ≡ false → inPlace above top ks ps m ≡ out NoRoom m
+      roomless : b ≡ false → inPlace above (nodesBelow above top m) ks ps m ≡ out NoRoom m
       unfolding inPlace afresh
       roomless f =
           both (leb (above + depthOf longestPath ks) longestPath)
-          (λ e. rw e (swap-none top m (build longestPath ks ps m) (lacks-refuses longestPath ks (j .rising) enough ps m (sym fits-is ∙ f))))
-          (λ e. rw e (swap-none top m (out NoRoom m) refl))
+          (λ e. rw e (swap-none (nodesBelow above top m) m (build longestPath ks ps m) (lacks-refuses longestPath ks (j .rising) enough ps m (sym fits-is ∙ f))))
+          (λ e. rw e (swap-none (nodesBelow above top m) m (out NoRoom m) refl))
 
-      too-deep : longestPath < above + n .depth → inPlace above top ks ps m ≡ out NoRoom m
+      too-deep : longestPath < above + n .depth → inPlace above (nodesBelow above top m) ks ps m ≡ out NoRoom m
       unfolding inPlace afresh
-      too-deep h = rw (lt-leb (above + depthOf longestPath ks) longestPath (omega (arith, depth-is))) (swap-none top m (out NoRoom m) refl)
+      too-deep h = rw (lt-leb (above + depthOf longestPath ks) longestPath (omega (arith, depth-is))) (swap-none (nodesBelow above top m) m (out NoRoom m) refl)
 
       -- no room for the sizes
       pub judges-no-room : b ≡ false → Judges above top ks ps m places left list₂ NoRoom
@@ -128,7 +131,7 @@ module _ (above top : ℕ) (ks ps : List ℕ) (m : Mem) (places : List ℕ) (j :
       judges-too-deep h = record { is = rw left-same (sym (too-deep h)); list = wiped }
 
       -- built, and the old nodes released
-      module _ (f : b ≡ true) (h : above + n .depth ≤ longestPath) (built : Built) (m₁ m₂ : Mem) (e : out built m₁ ≡ build longestPath ks ps left) (r : m₂ ≡ release longestPath m₁ top) where
+      module _ (sound : Sound above top m) (f : b ≡ true) (h : above + n .depth ≤ longestPath) (built : Built) (m₁ m₂ : Mem) (e : out built m₁ ≡ build longestPath ks ps left) (r : m₂ ≡ release longestPath m₁ top) where
         here : build longestPath ks ps m ≡ out built m₁
         here = ap (build longestPath ks ps) (sym left-same) ∙ sym e
 
@@ -138,11 +141,16 @@ module _ (above top : ℕ) (ks ps : List ℕ) (m : Mem) (places : List ℕ) (j :
         placed-at : built ≡ At (has-place .0)
         placed-at = sym (ap (λ (x : Out). x .built) here) ∙ has-place .1
 
-        swapped-in : inPlace above top ks ps m ≡ out built m₂
+        releases : release longestPath m₁ top ≡ zeroed (nodesBelow above top m) m₁
+        releases =
+            let g : Grows m m₁ = subst (Grows m) (ap (λ (x : Out). x .memory) here) (build-grows longestPath ks ps m) in
+            grown-release (sound .capacity) (sound .key) above top m (sound .sound) m₁ g
+
+        swapped-in : inPlace above (nodesBelow above top m) ks ps m ≡ out built m₂
         unfolding inPlace afresh
         swapped-in =
             rw (le-leb (above + depthOf longestPath ks) longestPath (omega (arith, depth-is)))
-            (ap (swap top m) here ∙ swap-built top m (out built m₁) (has-place .0) placed-at ∙ ap (out built) (sym r))
+            (ap (swap (nodesBelow above top m) m) here ∙ swap-built (nodesBelow above top m) m (out built m₁) (has-place .0) placed-at ∙ ap (out built) (sym (r ∙ releases)))
 
         pub judges-built : Judges above top ks ps m places m₂ list₂ built
         judges-built = record { is = sym swapped-in; list = wiped }

@@ -13,8 +13,9 @@ use Rattle.build.specs.declared.Built.{Built}
 use Rattle.laws.specs.Keys.{Rising}
 use Rattle.pool.proofs.Sets.{sets-past}
 use Rattle.pool.specs.Memory.{Mem}
-use Rattle.rebuild.specs.Judging.{Judgeable, Judges, Gathers, Rebuildable}
+use Rattle.rebuild.specs.Judging.{Judgeable, Sound, Judges, Gathers, Rebuildable}
 use Rattle.rebuild.specs.Rebuilding.{keysWith, payloadsWith, inPlace, Scratch, scratch, wiped, rebuilt, rebuildOver, rebuildOf}
+use Rattle.rebuild.specs.Zeroing.{nodesBelow}
 use Rattle.rebuild.proofs.Gathering.{with-rising, with-few, with-some, with-same}
 use Rattle.rebuild.proofs.Judging.{front-is}
 use Rattle.walk.specs.Walks.{longestPath}
@@ -23,7 +24,10 @@ use Rattle.walk.specs.Walks.{longestPath}
 wiped-front : (l vs : List ℕ) (n : ℕ) → length vs ≤ n → n ≤ length l → sets (sets l 0 vs) 0 (replicate n 0) ≡ sets l 0 (replicate n 0)
 wiped-front l vs n h f = wiped-same (sets l 0 vs) l n (length-sets l 0 vs) f (λ j le. sets-past l 0 vs j (omega arith))
 
-module _ (capacity k p above top : ℕ) (m : Mem) (s : Scratch) (r : Rebuildable capacity k above m s) where
+pub judged-sound : (capacity k above top : ℕ) (m : Mem) (s : Scratch) → Rebuildable capacity k above top m s → Sound above top m
+judged-sound capacity k above top m s r = record { capacity = capacity; key = k; sound = r .sound }
+
+module _ (capacity k p above top : ℕ) (m : Mem) (s : Scratch) (r : Rebuildable capacity k above top m s) where
   -- the keys and the payloads of the rebuild
   abbrev ks : List ℕ
   ks = keysWith capacity k above top m
@@ -76,7 +80,7 @@ module _ (capacity k p above top : ℕ) (m : Mem) (s : Scratch) (r : Rebuildable
         → rebuilt (out b m′) (scratch keys₂ payloads₂ places₂) ≡ rebuildOf capacity k p above top m s
     unfolding rebuildOf rebuildOver wiped
     rebuild-is m′ places₁ keys₂ payloads₂ places₂ b j c d e =
-        let o : out b m′ ≡ inPlace above top ks ps m = rw (keys-part, payloads-part) at (j .is) in
+        let o : out b m′ ≡ inPlace above (nodesBelow above top m) ks ps m = rw (keys-part, payloads-part) at (j .is) in
         let l : places₁ ≡ sets (s .places) 0 (replicate (length (sizesOf longestPath ks)) 0) = rw keys-part at (j .list) in
         let z : length (replicate {A = ℕ} (length (sizesOf longestPath ks)) 0) ≡ length (sizesOf longestPath ks) = length-replicate _ 0 in
         let x : keys₂ ≡ sets (s .keys) 0 (replicate (length ks) 0) =

@@ -1,6 +1,6 @@
--- Releasing a subtree zeroes just the nodes that its reading met (READINGS D-18a): also where runs overlap, and where one node is reached
--- by two slots. Whatever was released before a slot is read, its nodes' children went with it: so a slot that became NULL has nothing left
--- below it, and any other reads as it did. Assumes nothing but a reading without damage.
+-- Releasing a subtree zeroes just the nodes that its reading met, also where runs overlap, and where one node is reached by two slots.
+-- Whatever was released before a slot is read, all below it went too: so a slot that became NULL has nothing left below it, and any other
+-- reads as it did. Assumes nothing but a reading without damage.
 use mathlib.Core.List.{List, [], _∷_, _++_}
 use mathlib.Core.Logic.{_⊎_, inl, inr, ⊎-elim}
 use mathlib.Core.Path.{_≡_, refl, sym, ap, subst, subst⁻¹, _∙_}
@@ -19,7 +19,7 @@ use Rattle.pool.specs.declared.Record.{Record}
 use Rattle.pool.specs.declared.Record.the-variants.{Good, Broken}
 use Rattle.pool.specs.declared.Slot.{Slot}
 use Rattle.pool.specs.declared.Slot.the-variants.{Null, Data, Child, Broken as BrokenSlot}
-use Rattle.rebuild.specs.Zeroing.{Met, metAt, nodesMet, nodesBelow, zeroed}
+use Rattle.rebuild.specs.Zeroing.{Met, metAt, nodesMet, nodesBelow, nodeAlone, zeroed}
 use Rattle.rebuild.proofs.Zeroing.{In, in-left, in-right, in-either, Has, has-in, has-or-not, zeroed-both, zeroed-swap, zeroed-in, record-gone, record-kept, Emptied, zeroed-slot, child-elsewhere}
 use Rattle.walk.specs.Events.{firstIn, lastIn, countIn, inSlot, inSlots, inRecord, tooLong, eventsAt, eventsOf}
 use Rattle.walk.specs.Walks.{longestPath}
@@ -286,3 +286,24 @@ pub release-zeroes : (above top : ℕ) (m : Mem) → Undamaged (eventsOf Whole m
 unfolding nodesBelow eventsOf zeroed
 release-zeroes above top m u =
     releases-at m (longestPath - above) longestPath (omega arith) [] (record { reads = λ x h. absurd h; children = λ x h j c l e. absurd h }) top u .is
+
+-- A release of one level zeroes the node of its record, whatever stands below it.
+no-level : (m : Mem) (s : Slot) → releaseSlot (release 0) m s ≡ m
+unfolding releaseSlot release
+no-level m Null = refl
+no-level m (Data k) = refl
+no-level m (Child c) = refl
+no-level m (BrokenSlot c) = refl
+
+one-level : (n : Node) (count j : ℕ) (m : Mem) → releaseSlots (release 0) n count j m ≡ m
+unfolding releaseSlots
+one-level n zero j m = refl
+one-level n (suc count) j m = ap (λ (o : Mem). releaseSlots (release 0) n count (j + 1) o) (no-level m (slotAt (m .slots) n j)) ∙ one-level n count (j + 1) m
+
+pub release-alone : (r : ℕ) (m : Mem) → release 1 m r ≡ zeroed (nodeAlone r (nodeAt m r)) m
+unfolding release releaseRecord nodeAlone zeroed
+release-alone r m = of-record (nodeAt m r)
+  where
+    of-record : (x : Record) → releaseRecord (release 0) m r x ≡ zeroed (nodeAlone r x) m
+    of-record (Good n) = ap (λ (o : Mem). dropNode o r n) (one-level n (n .model .l) 0 m)
+    of-record (Broken c) = refl

@@ -19,8 +19,10 @@ use Rattle.pool.specs.Reading.{nodeIn, nodeFits, nodeAt, slotSays, slotAt}
 use Rattle.pool.specs.Writing.{putNode, putData, putChild, zeroRecord, zeroRun}
 use Rattle.rebuild.specs.Pairs.{pairOf, pairIf, pairGone}
 use Rattle.rebuild.specs.Rebuilding.{liveItems, soundBelow, lowerLive, upperLive, keysWith, payloadsWith, afresh, swapped, inPlace, Scratch, scratch, wiped, rebuilt, rebuildOver, rebuildOf}
+use Rattle.rebuild.specs.Zeroing.{nodesMet, nodesBelow, nodeAlone, zeroed}
 use Rattle.walk.specs.Events.{firstIn, lastIn, countIn, inSlot, inSlots, inRecord, tooLong, eventsAt, eventsOf}
 use Rattle.walk.specs.Items.{mayEnter, mayHold, items}
+use Rattle.walk.specs.Walks.{longestPath}
 
 -- the first words of a DATA and of a NODE slot; slots that are NULL
 abbrev key : ℕ → ℕ
@@ -64,7 +66,7 @@ zerosTo n = scratch (replicate n 0 ++ replicate (8 - n) 9) (replicate n 0 ++ rep
 
 -- with room for all three nodes
 root-rebuilt : rebuildOf 8 1 7 0 0 before (zerosTo 0) ≡ rebuilt (out (At 3) after) (zerosTo 7)
-unfolding rebuildOf rebuildOver wiped inPlace swapped afresh payloadsWith keysWith upperLive lowerLive liveItems listing items mayEnter mayHold eventsOf eventsAt inRecord inSlots inSlot firstIn lastIn countIn nodeAt nodeFits nodeIn slotAt slotSays slotOf inRange usedAt fullRun markAt markRun clearAt clearRun firstFrom firstUnused freeRun lowestFrom lowestRun slotsFor countAt spreadBelow spread modelAt leastFrom tOf emptyModel modelOf keysTo putNode putData putChild zeroRecord zeroRun lowestRecord lowestSlots placeNode payloadsTo fillSlot fillSlots nodeOn nodeWith build depthOf depthUnder dropNode releaseSlot releaseSlots releaseRecord release
+unfolding rebuildOf rebuildOver wiped inPlace swapped afresh payloadsWith keysWith upperLive lowerLive liveItems listing items mayEnter mayHold eventsOf eventsAt inRecord inSlots inSlot firstIn lastIn countIn nodeAt nodeFits nodeIn slotAt slotSays slotOf inRange usedAt fullRun markAt markRun clearAt clearRun firstFrom firstUnused freeRun lowestFrom lowestRun slotsFor countAt spreadBelow spread modelAt leastFrom tOf emptyModel modelOf keysTo putNode putData putChild zeroRecord zeroRun lowestRecord lowestSlots placeNode payloadsTo fillSlot fillSlots nodeOn nodeWith build depthOf depthUnder dropNode nodesMet nodesBelow zeroed
 root-rebuilt = refl
 
 -- one slot too few: the memory stays, and 7 places of scratch are zeros
@@ -79,8 +81,8 @@ keys = 0 ∷ 1 ∷ 100 ∷ 101 ∷ 102 ∷ 10000 ∷ 20000 ∷ []
 abbrev payloads : List ℕ
 payloads = 1 ∷ 7 ∷ 2 ∷ 3 ∷ 4 ∷ 5 ∷ 6 ∷ []
 
-depth-edge : (inPlace 22 0 keys payloads before ≡ out (At 3) after) × (inPlace 23 0 keys payloads before ≡ out NoRoom before)
-unfolding inPlace swapped afresh nodeAt nodeFits nodeIn slotAt slotSays slotOf inRange usedAt markAt markRun clearAt clearRun firstFrom firstUnused freeRun lowestFrom lowestRun slotsFor countAt spreadBelow spread modelAt leastFrom tOf emptyModel modelOf keysTo putNode putData putChild zeroRecord zeroRun lowestRecord lowestSlots placeNode payloadsTo fillSlot fillSlots nodeOn nodeWith build depthOf depthUnder dropNode releaseSlot releaseSlots releaseRecord release
+depth-edge : (inPlace 22 (nodesBelow 22 0 before) keys payloads before ≡ out (At 3) after) × (inPlace 23 (nodesBelow 23 0 before) keys payloads before ≡ out NoRoom before)
+unfolding inPlace swapped afresh nodeAt nodeFits nodeIn slotAt slotSays slotOf inRange usedAt markAt markRun clearAt clearRun firstFrom firstUnused freeRun lowestFrom lowestRun slotsFor countAt spreadBelow spread modelAt leastFrom tOf emptyModel modelOf keysTo putNode putData putChild zeroRecord zeroRun lowestRecord lowestSlots placeNode payloadsTo fillSlot fillSlots nodeOn nodeWith build depthOf depthUnder dropNode nodesMet nodesBelow zeroed eventsOf eventsAt inRecord inSlots inSlot countIn lastIn firstIn
 depth-edge = (refl, refl)
 
 -- 6 keys and a new one are as many as capacity 7; more than 6; key 101 is met; slot 19 is not marked
@@ -102,5 +104,24 @@ pair :
     × (pairIf true 1 7 0 1 before ≡ out (At 3) paired)
     × (pairIf false 0 1 1 7 before ≡ out (At 0) before)
     × (pairGone true 3 paired ≡ before)
-unfolding pairIf pairOf pairGone nodeAt nodeFits nodeIn slotAt slotSays slotOf inRange usedAt markAt markRun clearAt clearRun firstFrom firstUnused freeRun lowestFrom lowestRun slotsFor countAt spreadBelow spread modelAt leastFrom tOf emptyModel modelOf keysTo putNode putData putChild zeroRecord zeroRun lowestRecord lowestSlots placeNode payloadsTo fillSlot fillSlots nodeOn nodeWith build dropNode releaseSlot releaseSlots releaseRecord release
+unfolding pairIf pairOf pairGone nodeAt nodeFits nodeIn slotAt slotSays slotOf inRange usedAt markAt markRun clearAt clearRun firstFrom firstUnused freeRun lowestFrom lowestRun slotsFor countAt spreadBelow spread modelAt leastFrom tOf emptyModel modelOf keysTo putNode putData putChild zeroRecord zeroRun lowestRecord lowestSlots placeNode payloadsTo fillSlot fillSlots nodeOn nodeWith build dropNode nodeAlone zeroed
 pair = (refl, refl, refl, refl)
+
+-- Damage that breaks no rule: the root's slots lead twice to record 1, whose run (slots 4 to 7) and that of record 2 (slots 6 to 9) overlap in
+-- the slot that leads to record 3. No node has a key, and 7 nodes are read of 7 records.
+abbrev tangled : Mem
+tangled =
+    mem
+    (0 ∷ 1 ∷ 4 ∷ 0 ∷ 0 ∷ 0 ∷ 0 ∷ 0 ∷ 0 ∷ 1 ∷ 4 ∷ 4 ∷ 0 ∷ 0 ∷ 0 ∷ 0 ∷ 0 ∷ 1 ∷ 4 ∷ 6 ∷ 0 ∷ 0 ∷ 0 ∷ 0 ∷ 0 ∷ 1 ∷ 4 ∷ 10 ∷ 0 ∷ 0 ∷ 0 ∷ 0 ∷ replicate 24 0)
+    (child 1 ∷ 0 ∷ child 2 ∷ 0 ∷ child 1 ∷ 0 ∷ (nulls 4 ++ (child 3 ∷ 0 ∷ nulls 6)))
+    ((15 + (2 ^ 14 - 1) * 2 ^ 7) ∷ [])
+
+abbrev emptied : Mem
+emptied = mem (replicate 56 0) (nulls 14) (0 ∷ [])
+
+untangled :
+    (soundBelow 8 1 0 0 tangled ≡ true)
+    × (zeroed (nodesBelow 0 0 tangled) tangled ≡ emptied)
+    × (release longestPath tangled 0 ≡ emptied)
+unfolding soundBelow liveItems listing items mayEnter mayHold eventsOf eventsAt inRecord inSlots inSlot firstIn lastIn countIn nodeAt nodeFits nodeIn slotAt slotSays slotOf inRange usedAt fullRun clearAt clearRun zeroRecord zeroRun dropNode nodesMet nodesBelow zeroed releaseSlot releaseSlots releaseRecord release
+untangled = (refl, refl, refl)

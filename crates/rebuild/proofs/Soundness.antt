@@ -1,16 +1,12 @@
--- A subtree in which no rule of a rebuild is broken was read without damage: the reading went to its end, since the keys that it may hold
--- are fewer than the room for them. So its release zeroes just the nodes that were read. Assumes nothing.
-use mathlib.Core.Bool.{Bool, true, false, _&&_, not}
+-- A subtree in which no rule of a rebuild is broken was read without damage, and reads the same in a memory that has grown. So its release
+-- zeroes just the nodes that were read, also once new nodes have their places. Assumes nothing.
+use mathlib.Core.Bool.{true}
 use mathlib.Core.List.{List, [], _∷_, _++_}
-use mathlib.Core.Path.{_≡_, refl, sym, ap, _∙_}
-use Prim.Native.Nat.{ℕ, zero, suc, _+_, _-_, _<_, _≤_}
-use native.Mathlib.Omega.{arith}
-use borrow.Author.Tests.{leb-true}
-use lib.Dec.{leb, eqb}
+use mathlib.Core.Path.{_≡_, ap, _∙_}
+use Prim.Native.Nat.{ℕ, zero, suc, _+_, _-_}
 use Rattle.build.specs.Releasing.{release}
-use Rattle.laws.proofs.Tests.{both, and-both, true-not-false}
-use Rattle.laws.specs.Pick.{pick}
-use Rattle.listing.specs.Listing.{Listing, listing}
+use Rattle.laws.proofs.Tests.{both}
+use Rattle.pool.proofs.Growth.{Grows}
 use Rattle.pool.specs.Memory.{Mem, recordsIn}
 use Rattle.pool.specs.Reading.{nodeAt, slotAt}
 use Rattle.pool.specs.declared.Node.{Node}
@@ -18,9 +14,11 @@ use Rattle.pool.specs.declared.Record.{Record}
 use Rattle.pool.specs.declared.Record.the-variants.{Good, Broken}
 use Rattle.pool.specs.declared.Slot.{Slot}
 use Rattle.pool.specs.declared.Slot.the-variants.{Null, Data, Child, Broken as BrokenSlot}
-use Rattle.rebuild.specs.Rebuilding.{rebuildRules, liveItems, lastKey, soundBelow}
-use Rattle.rebuild.specs.Zeroing.{nodesBelow, zeroed}
+use Rattle.rebuild.specs.Rebuilding.{rebuildRules, soundBelow}
+use Rattle.rebuild.specs.Zeroing.{Met, nodesBelow, zeroed}
+use Rattle.rebuild.proofs.Grown.{live-unbroken, grown-nodes, grown-sound}
 use Rattle.rebuild.proofs.Releases.{Undamaged, release-zeroes}
+use Rattle.walk.proofs.Grown.{Unbroken}
 use Rattle.walk.specs.Events.{firstIn, countIn, inSlot, inSlots, inRecord, tooLong, eventsAt, eventsOf}
 use Rattle.walk.specs.Items.{mayEnter, mayHold, entered, holding, items}
 use Rattle.walk.specs.Walks.{longestPath}
@@ -76,38 +74,27 @@ unfolding eventsAt
 events-endless s m zero r = long-endless (nodeAt m r)
 events-endless s m (suc d) r = record-endless m (eventsAt s m d) (events-endless s m d) s r (nodeAt m r)
 
--- one key more may be read
-some-left : (ru : Rules) (k : ℕ) → ru .rebuild ≡ true → mayHold ru k ≡ true → 1 ≤ ru .keys
-unfolding mayHold
-some-left ru k e h = leb-true _ _ (and-both _ _ (rw e at (and-both (leb (ru .least) k) _ h .1)) .0)
-
-sound-undamaged-at : (m : Mem) (u v : ℕ) (es : List Event) (ru : Rules) (room : ℕ) → ru .rebuild ≡ true → ru .keys ≤ room → Endless es
-    → listing u v room (items m ru es) .sound ≡ true → Undamaged es
-unfolding items listing
-sound-undamaged-at m u v [] ru room e few z h = tt
-sound-undamaged-at m u v (Enter r n ∷ es) ru room e few z h =
-    both (mayEnter m ru n)
-    (λ t. sound-undamaged-at m u v es (entered ru) room e few z (rw t at h))
-    (λ t. absurd (true-not-false (sym (rw t at h))))
-sound-undamaged-at m u v (Element q k ∷ es) ru zero e few z h =
-    both (mayHold ru k)
-    (λ t. let some : 1 ≤ ru .keys = some-left ru k e t in absurd (omega arith))
-    (λ t. absurd (true-not-false (sym (rw t at h))))
-sound-undamaged-at m u v (Element q k ∷ es) ru (suc room) e few z h =
-    both (mayHold ru k)
-    (λ t.
-    both (leb u k && leb k v)
-    (λ w. sound-undamaged-at m u v es (holding ru k) room e (omega arith) z (rw (t, w) at h))
-    (λ w. sound-undamaged-at m u v es (holding ru k) (suc room) e (omega arith) z (rw (t, w) at h)))
-    (λ t. absurd (true-not-false (sym (rw t at h))))
-sound-undamaged-at m u v (Damage c ∷ es) ru room e few z h = true-not-false (sym h)
-sound-undamaged-at m u v (End ∷ es) ru room e few z h = absurd z
+unbroken-undamaged : (m : Mem) (es : List Event) (ru : Rules) → Endless es → Unbroken (items m ru es) → Undamaged es
+unfolding items
+unbroken-undamaged m [] ru z h = tt
+unbroken-undamaged m (Enter r n ∷ es) ru z h =
+    both (mayEnter m ru n) (λ t. unbroken-undamaged m es (entered ru) z (rw t at h)) (λ t. absurd (rw t at h))
+unbroken-undamaged m (Element q k ∷ es) ru z h =
+    both (mayHold ru k) (λ t. unbroken-undamaged m es (holding ru k) z (rw t at h)) (λ t. absurd (rw t at h))
+unbroken-undamaged m (Damage c ∷ es) ru z h = h
+unbroken-undamaged m (End ∷ es) ru z h = absurd z
 
 module _ (capacity k above top : ℕ) (m : Mem) (sound : soundBelow capacity k above top m ≡ true) where
   pub sound-undamaged : Undamaged (eventsOf Whole m above top)
-  unfolding soundBelow liveItems eventsOf
+  unfolding eventsOf
   sound-undamaged =
-      sound-undamaged-at m 0 lastKey (eventsAt Whole m (longestPath - above) top) (rebuildRules (recordsIn (m .nodes)) capacity k) capacity refl (omega arith) (events-endless Whole m (longestPath - above) top) sound
+      unbroken-undamaged m (eventsAt Whole m (longestPath - above) top) (rebuildRules (recordsIn (m .nodes)) capacity k) (events-endless Whole m (longestPath - above) top) (live-unbroken capacity k above top m sound)
 
   pub sound-release : release longestPath m top ≡ zeroed (nodesBelow above top m) m
   sound-release = release-zeroes above top m sound-undamaged
+
+-- in a memory that has grown since
+pub grown-release : (capacity k above top : ℕ) (m : Mem) → soundBelow capacity k above top m ≡ true → (after : Mem) → Grows m after
+    → release longestPath after top ≡ zeroed (nodesBelow above top m) after
+grown-release capacity k above top m sound after g =
+    sound-release capacity k above top after (grown-sound capacity k above top m sound after g) ∙ ap (λ (old : List Met). zeroed old after) (grown-nodes capacity k above top m sound after g)

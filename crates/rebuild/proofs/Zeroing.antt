@@ -6,7 +6,7 @@ use mathlib.Core.Bool.{false}
 use mathlib.Core.Path.{_≡_, refl, sym, ap, _∙_}
 use Prim.Native.Nat.{ℕ, _+_, _<_, _≤_}
 use native.Mathlib.Omega.{arith}
-use borrow.Author.Tests.{eqb-true, eqb-false, lt-ltb, le-ltb}
+use borrow.Author.Tests.{eqb-true, eqb-false}
 use lib.Dec.{eqb}
 use Rattle.build.proofs.Releasing.{Frees, frees-same, frees-both, drop-frees}
 use Rattle.build.specs.Releasing.{dropNode}
@@ -18,7 +18,7 @@ use Rattle.pool.proofs.AfterStores.{node-zero-other, slot-zero-run, slot-zero-r
 use Rattle.pool.proofs.Nodes.{reads-unmarked, reads-outside}
 use Rattle.pool.proofs.RecordStores.{length-zero-record}
 use Rattle.pool.proofs.RunStores.{length-zero-run}
-use Rattle.pool.proofs.Slots.{ChildSlot, child-word, child-reads}
+use Rattle.pool.proofs.Slots.{child-word, child-reads}
 use Rattle.pool.specs.Memory.{Mem, recordsIn, slotPlace}
 use Rattle.pool.specs.Reading.{unusedRecord, nodeAt, slotAt}
 use Rattle.pool.specs.declared.Node.{Node}

@@ -1,5 +1,6 @@
 -- What the rebuilding code asks of the keys and the memory, and what it leaves: the definition's answer and memory, and the list of
 -- places with zeros where the sizes were judged. Definitions only.
+use mathlib.Core.Bool.{true}
 use mathlib.Core.List.{List}
 use mathlib.Core.Path.{_≡_}
 use Prim.Native.Nat.{ℕ, _+_, _*_, _^_, _<_, _≤_}
@@ -11,7 +12,8 @@ use Rattle.build.specs.declared.Built.{Built}
 use Rattle.laws.specs.Keys.{keyBound, Rising}
 use Rattle.model.specs.Choice.{mostKeys}
 use Rattle.pool.specs.Memory.{Mem, recordsIn, slotsIn}
-use Rattle.rebuild.specs.Rebuilding.{inPlace, keysWith, payloadsWith, Scratch}
+use Rattle.rebuild.specs.Rebuilding.{soundBelow, inPlace, keysWith, payloadsWith, Scratch}
+use Rattle.rebuild.specs.Zeroing.{nodesBelow}
 use Rattle.walk.specs.Walks.{longestPath}
 
 -- the map has a bit for every place, and numbers of places are small
@@ -29,8 +31,14 @@ pub record Judgeable (ks ps : List ℕ) (m : Mem) (places : List ℕ) : Type 0 w
   pub pools : Pooled m
   pub room : length ks ≤ length places
 
+-- no rule of a rebuild is broken in the subtree at record top: for some capacity and some new key
+pub record Sound (above top : ℕ) (m : Mem) : Type 0 where
+  pub capacity : ℕ
+  pub key : ℕ
+  pub sound : soundBelow capacity key above top m ≡ true
+
 pub record Judges (above top : ℕ) (ks ps : List ℕ) (m : Mem) (places : List ℕ) (m′ : Mem) (places′ : List ℕ) (b : Built) : Type 0 where
-  pub is : out b m′ ≡ inPlace above top ks ps m
+  pub is : out b m′ ≡ inPlace above (nodesBelow above top m) ks ps m
   pub list : places′ ≡ sets places 0 (replicate (length (sizesOf longestPath ks)) 0)
 
 -- what gathering asks of scratch, and leaves in it: so many keys and payloads from the front
@@ -47,8 +55,9 @@ pub record Gathers (capacity key payload above top : ℕ) (m : Mem) (keys payloa
   pub keys-are : keys′ ≡ sets keys 0 (keysWith capacity key above top m)
   pub payloads-are : payloads′ ≡ sets payloads 0 (payloadsWith capacity key payload above top m)
 
--- what a rebuild asks
-pub record Rebuildable (capacity key above : ℕ) (m : Mem) (s : Scratch) : Type 0 where
+-- what a rebuild asks: among it that the subtree was judged
+pub record Rebuildable (capacity key above top : ℕ) (m : Mem) (s : Scratch) : Type 0 where
   pub gather : Gatherable capacity key above (s .keys) (s .payloads)
   pub pools : Pooled m
   pub places : length (s .places) ≡ length (s .keys)
+  pub sound : soundBelow capacity key above top m ≡ true

@@ -8,7 +8,6 @@ use lib.Dec.{leb}
 use lib.ListN.{length, getD, replicate}
 use lib.Seq.{sets}
 use Rattle.build.specs.Building.{Out, out, build}
-use Rattle.build.specs.Releasing.{release}
 use Rattle.build.specs.Sizes.{depthOf}
 use Rattle.build.specs.declared.Built.{Built}
 use Rattle.build.specs.declared.Built.the-variants.{At, NoRoom}
@@ -16,6 +15,7 @@ use Rattle.laws.specs.Keys.{keyBound}
 use Rattle.laws.specs.Pick.{pick}
 use Rattle.listing.specs.Listing.{Listing, listing}
 use Rattle.pool.specs.Memory.{Mem, recordsIn, payloadWord}
+use Rattle.rebuild.specs.Zeroing.{Met, nodesBelow, zeroed}
 use Rattle.walk.specs.Events.{eventsOf}
 use Rattle.walk.specs.Items.{items}
 use Rattle.walk.specs.Walks.{longestPath}
@@ -61,17 +61,17 @@ payloadsWith capacity k p above top m =
 unfoldable pub afresh : ℕ → List ℕ → List ℕ → Mem → Out
 afresh above ks ps m = pick (leb (above + depthOf longestPath ks) longestPath) (build longestPath ks ps m) (out NoRoom m)
 
--- once the new nodes have their places the old ones, at record top, are released; without places nothing is stored
-unfoldable pub swapped : ℕ → Mem → Built → Mem → Out
-swapped top m (At r) after = out (At r) (release longestPath after top)
-swapped top m NoRoom after = out NoRoom m
+-- once the new nodes have their places the old ones are zeroed; without places nothing is stored
+unfoldable pub swapped : List Met → Mem → Built → Mem → Out
+swapped old m (At r) after = out (At r) (zeroed old after)
+swapped old m NoRoom after = out NoRoom m
 
-abbrev pub swap : ℕ → Mem → Out → Out
-swap top m o = swapped top m (o .built) (o .memory)
+abbrev pub swap : List Met → Mem → Out → Out
+swap old m o = swapped old m (o .built) (o .memory)
 
--- the tree over the keys in place of the one at record top
-unfoldable pub inPlace : ℕ → ℕ → List ℕ → List ℕ → Mem → Out
-inPlace above top ks ps m = swap top m (afresh above ks ps m)
+-- the tree over the keys in place of the old nodes
+unfoldable pub inPlace : ℕ → List Met → List ℕ → List ℕ → Mem → Out
+inPlace above old ks ps m = swap old m (afresh above ks ps m)
 
 -- the lent scratch: three lists, a place of it is a word of each
 pub record Scratch : Type 0 where
@@ -94,11 +94,11 @@ pub record Rebuilt : Type 0 where
 abbrev pub rebuilt : Out → Scratch → Rebuilt
 rebuilt o s = record { out = o; scratch = s }
 
--- the tree over the keys in place of the one at record top; scratch is used for as many places as there are keys
-unfoldable pub rebuildOver : ℕ → ℕ → List ℕ → List ℕ → Mem → Scratch → Rebuilt
-rebuildOver above top ks ps m s = rebuilt (inPlace above top ks ps m) (wiped (length ks) s)
+-- the tree over the keys in place of the old nodes; scratch is used for as many places as there are keys
+unfoldable pub rebuildOver : ℕ → List Met → List ℕ → List ℕ → Mem → Scratch → Rebuilt
+rebuildOver above old ks ps m s = rebuilt (inPlace above old ks ps m) (wiped (length ks) s)
 
 -- the subtree at record top over its live keys and the new key k with payload p
 unfoldable pub rebuildOf : ℕ → ℕ → ℕ → ℕ → ℕ → Mem → Scratch → Rebuilt
 rebuildOf capacity k p above top m s =
-    rebuildOver above top (keysWith capacity k above top m) (payloadsWith capacity k p above top m) m s
+    rebuildOver above (nodesBelow above top m) (keysWith capacity k above top m) (payloadsWith capacity k p above top m) m s

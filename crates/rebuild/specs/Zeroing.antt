@@ -5,6 +5,8 @@ use Prim.Native.Nat.{ℕ}
 use Rattle.build.specs.Releasing.{dropNode}
 use Rattle.pool.specs.Memory.{Mem}
 use Rattle.pool.specs.declared.Node.{Node}
+use Rattle.pool.specs.declared.Record.{Record}
+use Rattle.pool.specs.declared.Record.the-variants.{Good, Broken}
 use Rattle.walk.specs.Events.{eventsOf}
 use Rattle.walk.specs.declared.Event.{Event}
 use Rattle.walk.specs.declared.Event.the-variants.{Enter, Element, Damage, End}
@@ -29,6 +31,11 @@ nodesMet (End ∷ es) = nodesMet es
 -- the nodes of the subtree at record top, whose path has `above` nodes before it
 unfoldable pub nodesBelow : ℕ → ℕ → Mem → List Met
 nodesBelow above top m = nodesMet (eventsOf Whole m above top)
+
+-- the node of record r by itself, if the record is good
+unfoldable pub nodeAlone : ℕ → Record → List Met
+nodeAlone r (Good n) = metAt r n ∷ []
+nodeAlone r (Broken c) = []
 
 -- the memory without them
 unfoldable pub zeroed : List Met → Mem → Mem

@@ -7,7 +7,7 @@ ghost use Prim.Native.Nat.{_<_, _≤_};
 ghost use lib.ListN.{length};
 ghost use Rattle.laws.specs.Keys.{keyBound};
 ghost use Rattle.pool.specs.Memory.{mem, recordsIn};
-ghost use Rattle.rebuild.specs.Judging.{Judgeable, Judges, Gatherable, Gathers, Rebuildable};
+ghost use Rattle.rebuild.specs.Judging.{Judgeable, Sound, Judges, Gatherable, Gathers, Rebuildable};
 ghost use Rattle.rebuild.specs.Rebuilding.{rebuildRules, soundBelow, rebuildOf, rebuilt, scratch};
 ghost use Rattle.build.specs.Building.{out};
 ghost use Rattle.walk.specs.Walks.{longestPath};
@@ -131,6 +131,7 @@ fn build_in_place(
 ) -> Built
     requires { ⌜ Judgeable (now keys) (now payloads) (mem (now nodes) (now slots) (now used)) (now places) ⌝ }
     requires { ⌜ above ≤ longestPath ⌝ }
+    requires { ⌜ Sound above top (mem (now nodes) (now slots) (now used)) ⌝ }
     ensures { λ r. ⌜ Judges above top (now (keys .entry)) (now (payloads .entry)) (mem (now (nodes .entry)) (now (slots .entry)) (now (used .entry)))
         (now (places .entry)) (mem (now (nodes .exit)) (now (slots .exit)) (now (used .exit))) (now (places .exit)) r ⌝ }
 {
@@ -164,7 +165,7 @@ pub fn rebuild(
     payloads: &mut [u64],
     places: &mut [u64],
 ) -> Built
-    requires { ⌜ Rebuildable capacity key above (mem (now nodes) (now slots) (now used)) (scratch (now keys) (now payloads) (now places)) ⌝ }
+    requires { ⌜ Rebuildable capacity key above top (mem (now nodes) (now slots) (now used)) (scratch (now keys) (now payloads) (now places)) ⌝ }
     ensures { λ b. ⌜ rebuilt (out b (mem (now (nodes .exit)) (now (slots .exit)) (now (used .exit)))) (scratch (now (keys .exit)) (now (payloads .exit)) (now (places .exit)))
         ≡ rebuildOf capacity key payload above top (mem (now (nodes .entry)) (now (slots .entry)) (now (used .entry)))
         (scratch (now (keys .entry)) (now (payloads .entry)) (now (places .entry))) ⌝ }

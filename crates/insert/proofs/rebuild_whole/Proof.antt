@@ -3,7 +3,7 @@ use mathlib.Core.Path.{_≡_, sym, _∙_}
 use native.Mathlib.Omega.{arith}
 use borrow.Author.Tests.{not-true, not-false}
 use Rattle.build.specs.declared.Built.the-variants.{NoRoom}
-use Rattle.insert.proofs.Tidies.{whole-damage, whole-done, whole-roomless}
+use Rattle.insert.proofs.Tidies.{ready-rebuildable, whole-damage, whole-done, whole-roomless}
 use borrow.Author.Needs.{needs}
 use Rattle.insert.proofs.rebuild_whole.Statement.{statement}
 use Rattle.insert.proofs.rebuild_whole.Tie as tie
@@ -27,7 +27,9 @@ returns : tie.Need-returns
 returns c = whole-damage _ _ _ _ _ _ (c .refuse .ensures) (sym (c .before .before .is-sound .ensures) ∙ not-true _ (c .before .if1 .taken))
 
 rebuild-requires : tie.Need-rebuild-requires
-rebuild-requires c κs = search needs
+rebuild-requires c κs =
+    let s = c .before .before .before .before .before .before .before .before .before .before .before .before .before .before .before .before .before in
+    ready-rebuildable (s .args .h) _ _ _ _ _ (s .pre) (omega arith) (sym (c .before .before .before .before .before .before .before .is-sound .ensures) ∙ not-false _ (c .before .before .before .before .before .before .if1 .left))
 
 enum-known-r : tie.Need-enum-known-r
 enum-known-r c = search needs

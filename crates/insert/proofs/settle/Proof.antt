@@ -6,7 +6,7 @@ use Rattle.build.specs.declared.Built.the-variants.{NoRoom}
 use Rattle.counters.proofs.Dues.{due-among}
 use Rattle.counters.proofs.Traces.{on-path-stays}
 use Rattle.insert.proofs.Leaves.{above-within}
-use Rattle.insert.proofs.Tidies.{settle-damage, settle-roomless, settle-tidy, pair-small}
+use Rattle.insert.proofs.Tidies.{settle-damage, settle-roomless, still-sound, settle-tidy, pair-small}
 use borrow.Author.Needs.{needs}
 use Rattle.insert.proofs.settle.Statement.{statement}
 use Rattle.insert.proofs.settle.Tie as tie
@@ -97,14 +97,17 @@ tidy-requires c κs =
         places = y .places;
         is-key = y .is-key;
       },
-      record {
-        slot = omega (arith, d .slot, w);
-        pair = pair-small _ _ _ _ _ _ _ _ (r .ensures) _ (c .before .before .before .before .before .before .before .c .given .1) (y .pools);
-        above-slot = λ e. omega (arith, c .before .before .before .before .before .before .before .before .before .before .before .before .before .before .before .before .before .before .before .before .slot-above .ensures, above-within _ (d .sized) _ (d .good) (s .args .key) (c .before .before .before .before .before .before .before .before .before .before .before .before .before .before .before .before .before .before .before .before .before .before .before .before .before .before .before .before .before .due-at .result) e (rw a (due-among _ _ _ _)), w);
-        sized = d .sized;
-        on = on-path-stays _ _ _ (rw n) (d .on);
-        within = rw a (due-among _ _ _ _);
-      },
+      (
+        record {
+          slot = omega (arith, d .slot, w);
+          pair = pair-small _ _ _ _ _ _ _ _ (r .ensures) _ (c .before .before .before .before .before .before .before .c .given .1) (y .pools);
+          above-slot = λ e. omega (arith, c .before .before .before .before .before .before .before .before .before .before .before .before .before .before .before .before .before .before .before .before .slot-above .ensures, above-within _ (d .sized) _ (d .good) (s .args .key) (c .before .before .before .before .before .before .before .before .before .before .before .before .before .before .before .before .before .before .before .before .before .before .before .before .before .before .before .before .before .due-at .result) e (rw a (due-among _ _ _ _)), w);
+          sized = d .sized;
+          on = on-path-stays _ _ _ (rw n) (d .on);
+          within = rw a (due-among _ _ _ _);
+        },
+        still-sound _ _ _ _ _ (sym (c .before .before .before .before .before .before .before .before .before .before .before .before .before .before .before .before .before .before .before .before .before .before .before .before .before .sound-due .ensures) ∙ not-false _ (c .before .before .before .before .before .before .before .before .before .before .before .before .before .before .before .before .before .before .before .before .before .before .before .before .if1 .left)) _ _ _ _ _ _ _ (r .ensures),
+      ),
     )
 
 same-length-7 : tie.Need-same-length-7

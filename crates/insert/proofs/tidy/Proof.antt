@@ -3,7 +3,7 @@ use mathlib.Core.Path.{_≡_, sym}
 use native.Mathlib.Omega.{arith}
 use Rattle.build.specs.declared.Built.the-variants.{NoRoom}
 use Rattle.counters.proofs.Traces.{on-path-stays}
-use Rattle.insert.proofs.Tidies.{tidy-none, tidy-done, tidy-put-off, new-within, ready-rebuildable}
+use Rattle.insert.proofs.Tidies.{tidy-none, tidy-done, tidy-put-off, new-within, ready-rebuildable, node-sound}
 use borrow.Author.Needs.{needs}
 use Rattle.insert.proofs.tidy.Statement.{statement}
 use Rattle.insert.proofs.tidy.Tie as tie
@@ -11,7 +11,7 @@ use Rattle.insert.proofs.tidy.Tie as tie
 stand-requires : tie.Need-stand-requires
 stand-requires c κs =
     let s = c .before .before .before .before .before .before .before .before .before .before in
-    let o = s .pre .1 in
+    let o = s .pre .1 .0 in
     (s .pre .0 .space, (s .pre .0 .is-key, record { slot = o .slot; pair = o .pair; above-slot = λ e. absurd (omega arith); sized = o .sized; on = o .on; within = omega arith }))
 
 same-length : tie.Need-same-length
@@ -24,7 +24,7 @@ same-length-3 : tie.Need-same-length-3
 same-length-3 c = search needs
 
 returns : tie.Need-returns
-returns c = tidy-none _ _ _ _ _ _ (c .before .before .before .before .before .before .before .before .before .before .before .before .before .before .before .args .t7) (c .before .before .before .before .before .before .before .before .before .before .before .before .before .before .before .pre .1 .sized) _ _ _ _ _ _ (c .before .before .before .before .before .before .before .before .if1 .taken) (c .before .before .before .before .stand .ensures _)
+returns c = tidy-none _ _ _ _ _ _ (c .before .before .before .before .before .before .before .before .before .before .before .before .before .before .before .args .t7) (c .before .before .before .before .before .before .before .before .before .before .before .before .before .before .before .pre .1 .0 .sized) _ _ _ _ _ _ (c .before .before .before .before .before .before .before .before .if1 .taken) (c .before .before .before .before .stand .ensures _)
 
 mul-top : tie.Need-mul-top
 mul-top c = search needs
@@ -33,7 +33,11 @@ element-copy-out-top : tie.Need-element-copy-out-top
 element-copy-out-top c = search needs
 
 rebuild-requires : tie.Need-rebuild-requires
-rebuild-requires c κs = search needs
+rebuild-requires c κs =
+    let s = c .before .before .before .before .before .before .before .before .before .before .before .before .before .before in
+    let lt = c .before .before .before .before .before .before .before .if1 .left in
+    let o = s .pre .1 .0 in
+    ready-rebuildable (s .args .h) _ _ _ _ _ (s .pre .0) (omega (arith, lt, o .sized .short)) (node-sound _ _ _ (o .sized) _ _ (omega (arith, lt)) (s .pre .1 .1))
 
 enum-known-r : tie.Need-enum-known-r
 enum-known-r c = search needs
@@ -41,7 +45,7 @@ enum-known-r c = search needs
 replace-at-requires : tie.Need-replace-at-requires
 replace-at-requires c κs =
     let s = c .before .before .before .before .before .before .before .before .before .before .before .before .before .before .before .before .before .before .before .before .before .before .before .before .before .before .before .before .before .before .before .before .before in
-    let o = s .pre .1 in
+    let o = s .pre .1 .0 in
     let r = c .before .before .before .before .before .before .before .before .before .before .before .before .before .before .before .before .before .before .rebuild in
     let n = r .kept .1 .1 .1 .1 .1 .0 in
     let w = r .kept .1 .1 .1 .1 .1 .1 .0 in
@@ -62,7 +66,7 @@ enum-told c = search needs
 stand-requires-2 : tie.Need-stand-requires-2
 stand-requires-2 c κs =
     let s = c .before .before .before .before .before .before .before .before .before .before .before .before .before .before .before .before .before .before .before .before .before .before .before .before .before .before .before .before .before .before .before .before in
-    let o = s .pre .1 in
+    let o = s .pre .1 .0 in
     let r = c .before .before .before .before .before .before .before .before .before .before .before .before .before .before .before .before .before .rebuild in
     let n = r .kept .1 .1 .1 .1 .1 .0 in
     let w = r .kept .1 .1 .1 .1 .1 .1 .0 in
@@ -87,7 +91,7 @@ same-length-9 : tie.Need-same-length-9
 same-length-9 c = search needs
 
 returns-2 : tie.Need-returns-2
-returns-2 c = tidy-done _ _ _ _ _ _ (c .before .before .before .before .before .before .before .before .before .before .before .before .before .before .before .before .before .before .before .before .before .before .before .before .before .before .before .before .before .before .before .before .before .before .before .before .before .before .before .before .args .t7) (c .before .before .before .before .before .before .before .before .before .before .before .before .before .before .before .before .before .before .before .before .before .before .before .before .before .before .before .before .before .before .before .before .before .before .before .before .before .before .before .before .pre .1 .sized) _ _ _ _ _ _ (c .before .before .before .before .before .before .before .before .before .before .before .before .before .before .before .before .before .before .before .before .before .before .before .before .before .before .before .before .before .before .before .before .before .if1 .left) _ _ _ (c .before .before .before .before .before .before .before .before .before .before .before .before .before .before .before .before .before .before .before .before .before .before .before .before .before .rebuild .ensures) _ (c .before .before .before .before .before .before .before .before .before .before .before .r .given .1) (c .before .before .before .before .before .before .replace-at .ensures _)
+returns-2 c = tidy-done _ _ _ _ _ _ (c .before .before .before .before .before .before .before .before .before .before .before .before .before .before .before .before .before .before .before .before .before .before .before .before .before .before .before .before .before .before .before .before .before .before .before .before .before .before .before .before .args .t7) (c .before .before .before .before .before .before .before .before .before .before .before .before .before .before .before .before .before .before .before .before .before .before .before .before .before .before .before .before .before .before .before .before .before .before .before .before .before .before .before .before .pre .1 .0 .sized) _ _ _ _ _ _ (c .before .before .before .before .before .before .before .before .before .before .before .before .before .before .before .before .before .before .before .before .before .before .before .before .before .before .before .before .before .before .before .before .before .if1 .left) _ _ _ (c .before .before .before .before .before .before .before .before .before .before .before .before .before .before .before .before .before .before .before .before .before .before .before .before .before .rebuild .ensures) _ (c .before .before .before .before .before .before .before .before .before .before .before .r .given .1) (c .before .before .before .before .before .before .replace-at .ensures _)
 
 same-length-10 : tie.Need-same-length-10
 same-length-10 c = search needs
@@ -110,7 +114,7 @@ same-length-15 c = search needs
 returns-3 : tie.Need-returns-3
 returns-3 c =
     let r = c .before .before .before .before .before .before .before .before .before .before .before .before .before .before .before .before .before .before .before .before .before .before .rebuild in
-    tidy-put-off _ _ _ _ _ _ (c .before .before .before .before .before .before .before .before .before .before .before .before .before .before .before .before .before .before .before .before .before .before .before .before .before .before .before .before .before .before .before .before .before .before .before .before .before .args .t7) (c .before .before .before .before .before .before .before .before .before .before .before .before .before .before .before .before .before .before .before .before .before .before .before .before .before .before .before .before .before .before .before .before .before .before .before .before .before .pre .1 .sized) _ _ _ _ _ _ (c .before .before .before .before .before .before .before .before .before .before .before .before .before .before .before .before .before .before .before .before .before .before .before .before .before .before .before .before .before .before .if1 .left) _ _ _ (r .ensures) (c .before .before .before .before .before .before .before .before .enum-told .given .1) (c .before .before .before .before .stand2 .ensures _)
+    tidy-put-off _ _ _ _ _ _ (c .before .before .before .before .before .before .before .before .before .before .before .before .before .before .before .before .before .before .before .before .before .before .before .before .before .before .before .before .before .before .before .before .before .before .before .before .before .args .t7) (c .before .before .before .before .before .before .before .before .before .before .before .before .before .before .before .before .before .before .before .before .before .before .before .before .before .before .before .before .before .before .before .before .before .before .before .before .before .pre .1 .0 .sized) _ _ _ _ _ _ (c .before .before .before .before .before .before .before .before .before .before .before .before .before .before .before .before .before .before .before .before .before .before .before .before .before .before .before .before .before .before .if1 .left) _ _ _ (r .ensures) (c .before .before .before .before .before .before .before .before .enum-told .given .1) (c .before .before .before .before .stand2 .ensures _)
 
 pub tidy-spec : {M : Type 1} → statement M
 tidy-spec =

@@ -2,7 +2,7 @@
 use mathlib.Core.Path.{_≡_, sym, _∙_}
 use native.Mathlib.Omega.{arith}
 use lib.ListN.{length}
-use Rattle.rebuild.proofs.Rebuilds.{within-keys, within-payloads, within-places, gathered-judgeable, rebuild-is}
+use Rattle.rebuild.proofs.Rebuilds.{within-keys, within-payloads, within-places, gathered-judgeable, judged-sound, rebuild-is}
 use borrow.Author.Needs.{needs}
 use Rattle.rebuild.proofs.rebuild.Statement.{statement}
 use Rattle.rebuild.proofs.rebuild.Tie as tie
@@ -29,7 +29,9 @@ part-build-in-place-end-2 : tie.Need-part-build-in-place-end-2
 part-build-in-place-end-2 c = within-payloads _ _ _ _ _ _ _ (c .before .before .before .before .before .before .before .before .before .before .before .before .before .before .before .before .before .before .before .pre) _ _ _ (c .before .before .before .before .before .before .before .gather .ensures)
 
 build-in-place-requires : tie.Need-build-in-place-requires
-build-in-place-requires c κs = (gathered-judgeable _ _ _ _ _ _ _ (c .before .before .before .before .before .before .before .before .before .before .before .before .before .before .before .before .before .before .before .before .before .before .before .before .pre) _ _ _ (c .before .before .before .before .before .before .before .before .before .before .before .before .gather .ensures), omega (arith, c .before .before .before .before .before .before .before .before .before .before .before .before .before .before .before .before .before .before .before .before .before .before .before .before .pre .gather .high))
+build-in-place-requires c κs =
+    let s = c .before .before .before .before .before .before .before .before .before .before .before .before .before .before .before .before .before .before .before .before .before .before .before .before in
+    (gathered-judgeable _ _ _ _ _ _ _ (s .pre) _ _ _ (c .before .before .before .before .before .before .before .before .before .before .before .before .gather .ensures), (omega (arith, s .pre .gather .high), judged-sound _ _ _ _ _ _ (s .pre)))
 
 wipe-requires : tie.Need-wipe-requires
 wipe-requires c κs = omega (arith, within-keys _ _ _ _ _ _ _ (c .before .before .before .before .before .before .before .before .before .before .before .before .before .before .before .before .before .before .before .before .before .before .before .before .before .before .before .before .before .before .before .before .before .before .pre) _ _ _ (c .before .before .before .before .before .before .before .before .before .before .before .before .before .before .before .before .before .before .before .before .before .before .gather .ensures))
