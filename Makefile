@@ -22,10 +22,19 @@
 #   make statements  the tables of edits in docs/STATEMENTS.md, from the edits' own lines
 #   make clean       remove target/
 
+# The kit's code is for x86-64. On another processor the tests are compiled for x86-64 too, and run under an emulator.
+ifeq ($(shell uname -m),x86_64)
 CC = gcc
-CFLAGS = -std=c11 -Wall -Wextra -Werror -Iinclude
 RUSTC = rustc
 RUSTFLAGS = -O --edition 2021
+RUN =
+else
+CC = x86_64-linux-gnu-gcc
+RUSTC = /usr/bin/rustc
+RUSTFLAGS = -O --edition 2021 --target x86_64-unknown-linux-gnu -C linker=x86_64-linux-gnu-gcc
+RUN = qemu-x86_64
+endif
+CFLAGS = -std=c11 -Wall -Wextra -Werror -Iinclude
 EDGE_DIR = target/staticlib
 EDGE = $(EDGE_DIR)/libedge.a
 LINK_EDGE = -L native=$(EDGE_DIR) -l static=edge
@@ -58,48 +67,48 @@ session: $(SESSION)
 session-example: $(SESSION)
 	$(need_python)
 	@mkdir -p target/test
-	@tools/session-text < tests/example.session | $(SESSION) | tee target/test/session-example.out
+	@tools/session-text < tests/example.session | $(RUN) $(SESSION) | tee target/test/session-example.out
 	@cmp -s target/test/session-example.out tests/example.printed || { echo "the session program prints something else than tests/example.printed: compare it with target/test/session-example.out" >&2; exit 1; }
 
 answers: second-session
 	@tools/session-text < tests/answers.session > crates/session/stdin
-	@target/second/session < crates/session/stdin > crates/session/stdout
+	@$(RUN) target/second/session < crates/session/stdin > crates/session/stdout
 
 show: $(EDGE)
 	$(need_cc)
 	@mkdir -p target/test
 	@$(CC) $(CFLAGS) tests/show.c $(EDGE) -o target/test/show
-	@target/test/show
+	@$(RUN) target/test/show
 
 edge-test: $(EDGE)
 	$(need_cc)
 	@mkdir -p target/test
 	@$(CC) $(CFLAGS) tests/edge.c $(EDGE) -o target/test/edge
-	@target/test/edge
+	@$(RUN) target/test/edge
 
 second: second-program
-	@target/second/second
+	@$(RUN) target/second/second
 
 second-desk: $(DESK)
 	$(need_rustc)
 	@mkdir -p target/second
 	@$(RUSTC) $(RUSTFLAGS) $(DESK_CFG) tests/second/desk_main.rs $(LINK_DESK) -o target/second/desk
-	@target/second/desk
+	@$(RUN) target/second/desk
 
 second-session:
 	$(need_rustc)
 	$(need_python)
 	@mkdir -p target/second
 	@$(RUSTC) $(RUSTFLAGS) tests/second/session_main.rs -o target/second/session
-	@tools/session-text < tests/example.session | target/second/session | cmp - tests/example.printed || { echo "the second program's session prints something else than tests/example.printed" >&2; exit 1; }
+	@tools/session-text < tests/example.session | $(RUN) target/second/session | cmp - tests/example.printed || { echo "the second program's session prints something else than tests/example.printed" >&2; exit 1; }
 
 second-sessions: sessions-program $(SESSION)
-	@target/second/sessions --program $(SESSION)
+	@$(RUN) target/second/sessions --program "$(RUN) $(SESSION)"
 
 N = 10000000
 SEED = $(shell od -An -N4 -tu4 /dev/urandom)
 soak: sessions-program $(SESSION)
-	@target/second/sessions --program $(SESSION) --operations $(N) --seed $(SEED)
+	@$(RUN) target/second/sessions --program "$(RUN) $(SESSION)" --operations $(N) --seed $(SEED)
 
 # lists lent without guards, each in a block of its own; the first error ends it
 MEMCHECK = valgrind --quiet --error-exitcode=9 --exit-on-first-error=yes
@@ -124,7 +133,7 @@ desk-example: $(DESK) $(EDGE)
 	$(need_cc)
 	@mkdir -p target/test
 	@$(CC) $(CFLAGS) examples/desk.c $(DESK) $(EDGE) -o target/test/desk-example
-	@target/test/desk-example | tee target/test/desk-example.out
+	@$(RUN) target/test/desk-example | tee target/test/desk-example.out
 	@cmp -s target/test/desk-example.out examples/desk.expected || { echo "the desk example prints something else than examples/desk.expected: compare it with target/test/desk-example.out" >&2; exit 1; }
 
 picture: $(DESK) $(EDGE)
@@ -132,16 +141,16 @@ picture: $(DESK) $(EDGE)
 	$(need_python)
 	@mkdir -p target/test
 	@$(CC) $(CFLAGS) tests/tree.c $(DESK) $(EDGE) -o target/test/tree
-	@target/test/tree | tools/picture > target/test/slots.svg && mv target/test/slots.svg docs/slots.svg
+	@$(RUN) target/test/tree | tools/picture > target/test/slots.svg && mv target/test/slots.svg docs/slots.svg
 
 desk-test: $(DESK)
 	$(need_cc)
 	@mkdir -p target/test
 	@$(CC) $(CFLAGS) $(DESK_DEFINES) tests/desk.c $(DESK) -o target/test/desk
-	@target/test/desk
+	@$(RUN) target/test/desk
 
 worst: second-program
-	@target/second/second --worst
+	@$(RUN) target/second/second --worst
 
 second-program: $(EDGE)
 	$(need_rustc)
@@ -152,9 +161,9 @@ bench: $(EDGE) $(DESK)
 	$(need_rustc)
 	@mkdir -p target/bench
 	@$(RUSTC) $(RUSTFLAGS) bench/leaves.rs $(LINK_EDGE) -o target/bench/leaves
-	@target/bench/leaves
+	@$(RUN) target/bench/leaves
 	@$(RUSTC) $(RUSTFLAGS) bench/load.rs $(LINK_DESK) -o target/bench/load
-	@target/bench/load
+	@$(RUN) target/bench/load
 	@$(MAKE) --no-print-directory bench-store
 
 bench-store: $(DESK)
@@ -162,7 +171,7 @@ bench-store: $(DESK)
 	@mkdir -p target/bench
 	@$(RUSTC) $(RUSTFLAGS) $(DESK_CFG) bench/store.rs $(LINK_DESK) -o target/bench/store
 	$(need_python)
-	@target/bench/store --series target/bench/series.txt
+	@$(RUN) target/bench/store --series target/bench/series.txt
 	@tools/speed < target/bench/series.txt > target/bench/speed.svg && mv target/bench/speed.svg docs/speed.svg
 
 # rt builds a program only when it proves it

@@ -1,5 +1,6 @@
--- Releasing a subtree (document 01, "Insert": the old nodes "are released and zeroed"): children first, each in slot order, then the
--- node's own run and record are zeroed and unmarked; a record that is not good is passed over. Definitions only.
+-- Releasing a subtree in the code's own way, on every memory: children first, each in slot order, then the node's own run and record are
+-- zeroed and unmarked; a record that is not good is passed over. Document 01's sentence, that the old nodes "are released and zeroed", is
+-- rebuild's `zeroed`; that both leave the same where no rule is broken is shown there. Definitions only.
 use Prim.Native.Nat.{ℕ, zero, suc, _+_}
 use Rattle.marks.specs.Used.{clearAt, clearRun}
 use Rattle.pool.specs.Memory.{Mem, mem, slotPlace}
