@@ -9,7 +9,7 @@
 #   make second      the independent second program; last line 'second: N passed, M failed'
 #   make second-desk the second program's store against the desk library; last line 'desk: N passed, M failed'
 #   make second-session  document 01's example session, written as text, through the second program's own session; held to what document 01 prints
-#   make second-sessions  2,000,000 operations in whole sessions, through the session program and the desk library; last line 'sessions: N passed, 0 failed'
+#   make second-sessions  2,000,000 operations (300,000 where they are emulated) in whole sessions, through the session program and the desk library; last line 'sessions: N passed, 0 failed'
 #   make soak N=..   the same with N operations; the seed is random and printed, or given by SEED=..
 #   make memcheck    parts of both comparisons under Valgrind
 #   make desk-test   the desk library from C; last line 'desk: N passed, M failed'
@@ -28,11 +28,14 @@ CC = gcc
 RUSTC = rustc
 RUSTFLAGS = -O --edition 2021
 RUN =
+SESSIONS =
 else
 CC = x86_64-linux-gnu-gcc
 RUSTC = /usr/bin/rustc
 RUSTFLAGS = -O --edition 2021 --target x86_64-unknown-linux-gnu -C linker=x86_64-linux-gnu-gcc
 RUN = qemu-x86_64
+# some 500 operations a second there: all 2,000,000 would take more than an hour
+SESSIONS = --operations 300000
 endif
 CFLAGS = -std=c11 -Wall -Wextra -Werror -Iinclude
 EDGE_DIR = target/staticlib
@@ -103,7 +106,7 @@ second-session:
 	@tools/session-text < tests/example.session | $(RUN) target/second/session | cmp - tests/example.printed || { echo "the second program's session prints something else than tests/example.printed" >&2; exit 1; }
 
 second-sessions: sessions-program $(SESSION)
-	@$(RUN) target/second/sessions --program "$(RUN) $(SESSION)"
+	@$(RUN) target/second/sessions --program "$(RUN) $(SESSION)" $(SESSIONS)
 
 N = 10000000
 SEED = $(shell od -An -N4 -tu4 /dev/urandom)
