@@ -34,7 +34,7 @@ CC = x86_64-linux-gnu-gcc
 RUSTC = /usr/bin/rustc
 RUSTFLAGS = -O --edition 2021 --target x86_64-unknown-linux-gnu -C linker=x86_64-linux-gnu-gcc
 RUN = qemu-x86_64
-# some 500 operations a second there: all 2,000,000 would take more than an hour
+# 500 to 700 operations a second there: all 2,000,000 would take some 50 to 65 minutes (docs/CHECKS.md)
 SESSIONS = --operations 300000
 endif
 CFLAGS = -std=c11 -Wall -Wextra -Werror -Iinclude
