@@ -7,7 +7,7 @@ use Prim.Native.Nat.{ℕ, zero, suc, ◌+◌, ◌-◌, ◌*◌, ◌<◌, ◌≤�
 use native.Mathlib.Nat.{zero-max}
 use native.Mathlib.Numerals.{add-one}
 use native.Mathlib.Omega.{arith}
-use borrow.Author.Tests.{eqb_true, eqb-false, eq_eqb, ne_eqb}
+use borrow.Author.Tests.{eqb-true, eqb-false, eq-eqb, ne_eqb}
 use lib.Dec.{eqb}
 use lib.ListN.{length, get_or, take, drop, set, length-append, length-drop, take-append-drop, drop_of_length-le}
 use lib.Seq.{sets, length-sets, get_or-drop, drop-drop}
@@ -43,7 +43,7 @@ module _ (m : Model) (q : ℕ) where
   keys-all : (xs : List ℕ) → ((i : ℕ) → i < length xs → slot_of m (value_of (get_or xs i 0)) ≡ q) → keys_to m q xs ≡ xs
   unfolding keys_to
   keys-all [] h = refl
-  keys-all (x ∷ xs) h = rw (eq_eqb (slot_of m (value_of x)) q (h 0 (omega arith)), keys-all xs (λ i lt. h (suc i) (omega arith)))
+  keys-all (x ∷ xs) h = rw (eq-eqb (slot_of m (value_of x)) q (h 0 (omega arith)), keys-all xs (λ i lt. h (suc i) (omega arith)))
 
   keys_none : (xs : List ℕ) → ((i : ℕ) → i < length xs → slot_of m (value_of (get_or xs i 0)) ≡ q → ⊥) → keys_to m q xs ≡ []
   unfolding keys_to
@@ -81,7 +81,7 @@ module _ {A : Type 0} (join : A → A → A) (none : A) (unit : (x : A) → join
       let z : keys_to m q ys ≡ [] = keys_none m q ys (λ i b e. omega (arith, later i b)) in
       both (eqb q t)
       (λ e.
-      let d : q ≡ t = eqb_true q t e in
+      let d : q ≡ t = eqb-true q t e in
       let g : keys_to m q xs ≡ xs = keys-all m q xs (λ i b. here i b ∙ sym d) in
       rw (keys-append m q xs ys, g, z, append-nil, empty, unit, over_past n (q + 1) (omega arith)))
       (λ e.

@@ -6,7 +6,7 @@ use mathlib.Core.Path.{◌≡◌, refl, sym, ap, ◌∙◌}
 use Prim.Native.Nat.{ℕ, zero, suc, ◌+◌, ◌-◌, ◌<◌, ◌≤◌}
 use native.Mathlib.Nat.{sub-zero, suc-sub-suc}
 use native.Mathlib.Omega.{arith}
-use borrow.Author.Tests.{ltb-true, ltb-false, lt_ltb, le-ltb, eq_eqb, ne_eqb}
+use borrow.Author.Tests.{ltb-true, ltb-false, lt-ltb, le-ltb, eq-eqb, ne_eqb}
 use lib.Dec.{ltb}
 use lib.ListN.{length, get_or, take, drop}
 use Rattle.laws.specs.Keys.{Rising}
@@ -42,7 +42,7 @@ module _ (md : Model) where
       rw (le-ltb (slot_of md k) s (from 0 (omega arith) (omega arith)))
       (before_is s ks 0 (omega arith) (λ i h. absurd (omega arith)) (λ i h lt. from (suc i) (omega arith) (omega arith)))
   before_is s (k ∷ ks) (suc b) le below from =
-      rw (lt_ltb (slot_of md k) s (below 0 (omega arith)))
+      rw (lt-ltb (slot_of md k) s (below 0 (omega arith)))
       (ap suc (before_is s ks b (omega arith) (λ i h. below (suc i) (omega arith)) (λ i h lt. from (suc i) (omega arith) (omega arith))))
 
   before_climbs : (s t : ℕ) (ks : List ℕ) → s ≤ t → count_before md s ks ≤ count_before md t ks
@@ -51,7 +51,7 @@ module _ (md : Model) where
   before_climbs s t (k ∷ ks) le =
       let ih : count_before md s ks ≤ count_before md t ks = before_climbs s t ks le in
       both (ltb (slot_of md k) s)
-      (λ e. rw (e, lt_ltb (slot_of md k) t (omega (arith, ltb-true (slot_of md k) s e))) (omega arith))
+      (λ e. rw (e, lt-ltb (slot_of md k) t (omega (arith, ltb-true (slot_of md k) s e))) (omega arith))
       (λ e. rw e (both (ltb (slot_of md k) t) (λ d. rw d (omega arith)) (λ d. rw d ih)))
 
   -- slots from the first one on
@@ -108,9 +108,9 @@ module _ (md : Model) where
         ⊎_elim
         (λ b.
         let z : count_before md s ks ≡ 0 = none_before s k ks h (omega arith) in
-        rw (lt_ltb (slot_of md k) (s + 1) (omega arith), le-ltb (slot_of md k) s (omega arith), eq_eqb (slot_of md k) s (omega arith), z, sub-zero)
+        rw (lt-ltb (slot_of md k) (s + 1) (omega arith), le-ltb (slot_of md k) s (omega arith), eq-eqb (slot_of md k) s (omega arith), z, sub-zero)
         (ap (λ (g : List ℕ). p ∷ g) (rw (z, sub-zero) at ih)))
-        (λ b. rw (lt_ltb (slot_of md k) (s + 1) (omega arith), lt_ltb (slot_of md k) s b, ne_eqb (slot_of md k) s (omega arith), suc-sub-suc) ih)
+        (λ b. rw (lt-ltb (slot_of md k) (s + 1) (omega arith), lt-ltb (slot_of md k) s b, ne_eqb (slot_of md k) s (omega arith), suc-sub-suc) ih)
         (le_or_lt s (slot_of md k)))
         (λ a.
         let z : count_before md s ks ≡ 0 = none_before s k ks h (omega arith) in

@@ -6,7 +6,7 @@ use mathlib.Core.Logic.{◌⊎◌, inl, inr, ⊎_elim}
 use mathlib.Core.Path.{◌≡◌, refl, sym, ◌∙◌}
 use Prim.Native.Nat.{ℕ, zero, suc, ◌+◌, ◌*◌, ◌<◌, ◌≤◌}
 use native.Mathlib.Omega.{arith}
-use borrow.Author.Tests.{eqb_true, eqb-false, ltb-true}
+use borrow.Author.Tests.{eqb-true, eqb-false, ltb-true}
 use lib.Dec.{eqb, ltb}
 use lib.ListN.{length, get_or}
 use Rattle.laws.proofs.Tests.{both, le_or_lt, true_not_false}
@@ -35,7 +35,7 @@ pub mark-keeps : (u : List ℕ) (p q : ℕ) → used_at u q ≡ true → used_at
 unfolding mark_at
 mark-keeps u p q e =
     both (eqb q p)
-    (λ t. let d : q ≡ p = eqb_true _ _ t in let a : used_at u p ≡ true = rw (← d) e in rw a e)
+    (λ t. let d : q ≡ p = eqb-true _ _ t in let a : used_at u p ≡ true = rw (← d) e in rw a e)
     (λ t. mark-other u p q (eqb-false _ _ t) ∙ e)
 
 pub mark_run-keeps : (u : List ℕ) (p n q : ℕ) → used_at u q ≡ true → used_at (mark_run u p n) q ≡ true

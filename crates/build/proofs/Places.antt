@@ -6,7 +6,7 @@ use mathlib.Core.Logic.{inl}
 use mathlib.Core.Path.{◌≡◌, refl, sym, ◌∙◌}
 use Prim.Native.Nat.{ℕ, ◌+◌, ◌<◌, ◌≤◌}
 use native.Mathlib.Omega.{arith}
-use borrow.Author.Tests.{eqb_true, eqb-false, ltb-true, lt_ltb, le-ltb}
+use borrow.Author.Tests.{eqb-true, eqb-false, ltb-true, lt-ltb, le-ltb}
 use lib.Dec.{eqb, ltb}
 use lib.ListN.{length}
 use Rattle.laws.specs.Keys.{Rising}
@@ -49,11 +49,11 @@ module _ (m : Mem) (md : Model) (r : ℕ) (lowest : r ≡ first_unused m.used 0 
   module _ (room : r < records_in m.nodes) (w : Run) (run : w ≡ lowest_run m.used (records_in m.nodes) (slots_in m.slots) md.l) where
     pub no_run : w ≡ Nowhere → NoPlace ≡ place_for m md
     unfolding place_for place_on lowest_record lowest_slots
-    no_run e = rw (← lowest, lt_ltb _ _ room, ← run, e)
+    no_run e = rw (← lowest, lt-ltb _ _ room, ← run, e)
 
     pub run_here : (s f : ℕ) → f ≡ first_unused m.used (records_in m.nodes) (slots_in m.slots) → w ≡ RunAt s → Here (place_at r md s f) ≡ place_for m md
     unfolding place_for place_on lowest_record lowest_slots first_slot
-    run_here s f first e = rw (← lowest, lt_ltb _ _ room, ← run, e, ← first)
+    run_here s f first e = rw (← lowest, lt-ltb _ _ room, ← run, e, ← first)
 
 -- what a place found is
 pub record Takes (m : Mem) (md : Model) (p : Place) : Type 0 where
@@ -99,7 +99,7 @@ module _ (m : Mem) (md : Model) (p : Place) (t : Takes m md p) where
         let e : 0 + r ≡ r = omega arith in
         mark_run-out (mark_at m.used p.record) (slot_place m.nodes p.node.start) p.node.model.l r (inl (omega arith))
         ∙ both (eqb r p.record)
-        (λ q. let d : r ≡ p.record = eqb_true _ _ q in rw d (mark-same m.used p.record (omega (arith, z.mapped))))
+        (λ q. let d : r ≡ p.record = eqb-true _ _ q in rw d (mark-same m.used p.record (omega (arith, z.mapped))))
         (λ q.
         let d : r ≡ p.record → ⊥ = eqb-false r p.record q in
         mark-other m.used p.record r d ∙ rw e at (known.1 r (omega arith)))

@@ -6,7 +6,7 @@ use mathlib.Core.Logic.{inl, inr, ⊎_elim}
 use mathlib.Core.Path.{◌≡◌, refl, sym, ap, ◌∙◌}
 use Prim.Native.Nat.{ℕ, zero, suc, ◌+◌, ◌-◌, ◌*◌, ◌^◌, ◌<◌, ◌≤◌}
 use native.Mathlib.Omega.{arith}
-use borrow.Author.Tests.{eqb_true, eqb-false}
+use borrow.Author.Tests.{eqb-true, eqb-false}
 use lib.Dec.{eqb}
 use lib.ListN.{length, get_or, replicate}
 use Rattle.laws.proofs.Tests.{both, le_or_lt}
@@ -32,7 +32,7 @@ use Rattle.build.specs.Releasing.{drop_node, release_slot, release_slots, releas
 pub clear-keeps_unused : (u : List ℕ) (p q : ℕ) → used_at u q ≡ false → used_at (clear_at u p) q ≡ false
 clear-keeps_unused u p q e =
     both (eqb q p)
-    (λ t. let d : q ≡ p = eqb_true _ _ t in rw d (clear-same u p))
+    (λ t. let d : q ≡ p = eqb-true _ _ t in rw d (clear-same u p))
     (λ t. clear-other u p q (eqb-false _ _ t) ∙ e)
 
 pub clear_run-keeps_unused : (u : List ℕ) (p n q : ℕ) → used_at u q ≡ false → used_at (clear_run u p n) q ≡ false

@@ -8,7 +8,7 @@ use mathlib.Core.Path.{◌≡◌, refl, sym, ap, subst, subst⁻¹, ◌∙◌}
 use Prim.Native.Nat.{ℕ, zero, suc, ◌+◌, ◌-◌, ◌*◌, ◌/◌, ◌<◌, ◌≤◌}
 use native.Mathlib.Nat.{add-zero}
 use native.Mathlib.Omega.{arith}
-use borrow.Author.Tests.{lt_ltb, le-ltb, ltb-true, ltb-false, eqb_true, eqb-false}
+use borrow.Author.Tests.{lt-ltb, le-ltb, ltb-true, ltb-false, eqb-true, eqb-false}
 use lib.Dec.{ltb, eqb}
 use lib.ListN.{length, get_or, replicate, length-set, length-replicate, get_or-replicate, get_or-eq_default}
 use lib.Seq.{length-sets}
@@ -214,7 +214,7 @@ module _ (d : ℕ) (ks : List ℕ) (rising : Rising ks) (enough : height (length
 ltb_same : (x y z : ℕ) → (x < y → x < z) → (y ≤ x → z ≤ x) → ltb x y ≡ ltb x z
 ltb_same x y z f g =
     both (ltb x y)
-    (λ e. e ∙ sym (lt_ltb x z (f (ltb-true x y e))))
+    (λ e. e ∙ sym (lt-ltb x z (f (ltb-true x y e))))
     (λ e. e ∙ sym (le-ltb x z (g (ltb-false x y e))))
 
 -- A map of which just the first a records and the first b slots are used.
@@ -223,7 +223,7 @@ module _ (records count : ℕ) (u : List ℕ) (a b : ℕ) (p : Prefix records co
   prefix_record : first_unused u 0 records ≡ a
   prefix_record =
       first_unused_is u 0 records a p.records-within
-      (λ j h. let e : 0 + j ≡ j = omega arith in rw e (p.records-used j (omega (arith, p.records-within)) ∙ lt_ltb j a h))
+      (λ j h. let e : 0 + j ≡ j = omega arith in rw e (p.records-used j (omega (arith, p.records-within)) ∙ lt-ltb j a h))
       (λ h. let e : 0 + a ≡ a = omega arith in rw e (p.records-used a h ∙ le-ltb a a (omega arith)))
 
   -- and so the lowest run, if there is room behind the used slots
@@ -233,12 +233,12 @@ module _ (records count : ℕ) (u : List ℕ) (a b : ℕ) (p : Prefix records co
       (free_run_is u (records + b) l (λ q le lt.
       let e : records + (q - records) ≡ q = omega arith in
       (rw e at (p.slots-used (q - records) (omega arith))) ∙ le-ltb (q - records) b (omega arith)))
-      (λ j lt. free_run_not u (records + j) l (records + j) (omega arith) (omega arith) (p.slots-used j (omega arith) ∙ lt_ltb j b lt))
+      (λ j lt. free_run_not u (records + j) l (records + j) (omega arith) (omega arith) (p.slots-used j (omega arith) ∙ lt-ltb j b lt))
 
   prefix_nowhere : (l : ℕ) → 1 ≤ l → count < b + l → lowest_run u records count l ≡ Nowhere
   prefix_nowhere l pos h =
       lowest_run-nowhere u records count l (λ j le.
-      free_run_not u (records + j) l (records + j) (omega arith) (omega arith) (p.slots-used j (omega arith) ∙ lt_ltb j b (omega arith)))
+      free_run_not u (records + j) l (records + j) (omega arith) (omega arith) (p.slots-used j (omega arith) ∙ lt-ltb j b (omega arith)))
 
   -- one record and l slots more
   module _ (l : ℕ) (ha : a < records) (hb : b + l ≤ count) where
@@ -246,8 +246,8 @@ module _ (records count : ℕ) (u : List ℕ) (a b : ℕ) (p : Prefix records co
     record-after r h =
         both (eqb r a)
         (λ t.
-        let e : r ≡ a = eqb_true r a t in
-        rw e (mark-same u a (omega (arith, p.mapped)) ∙ sym (lt_ltb a (a + 1) (omega arith))))
+        let e : r ≡ a = eqb-true r a t in
+        rw e (mark-same u a (omega (arith, p.mapped)) ∙ sym (lt-ltb a (a + 1) (omega arith))))
         (λ t.
         let e : r ≡ a → ⊥ = eqb-false r a t in
         mark-other u a r e ∙ p.records-used r h ∙ ltb_same r a (a + 1) (λ x. omega arith) (λ x. omega (arith, e)))
@@ -262,7 +262,7 @@ module _ (records count : ℕ) (u : List ℕ) (a b : ℕ) (p : Prefix records co
         (λ within.
         let mapped : (records + q) / 64 < length u = omega (arith, p.mapped) in
         mark_run_in (mark_at u a) (records + b) l (records + q) (omega arith) (omega arith) (rw (mark-length u a) mapped)
-        ∙ sym (lt_ltb q (b + l) within))
+        ∙ sym (lt-ltb q (b + l) within))
         (le_or_lt (b + l) q))
         (λ before. mark_run-out (mark_at u a) (records + b) l (records + q) (inl (omega arith)) ∙ same ∙ ltb_same q b (b + l) (λ x. omega arith) (λ x. omega arith))
         (le_or_lt b q)
@@ -294,7 +294,7 @@ module _ (records count : ℕ) where
   unfolding place_all
   place-first l ls u a b p ha hb =
       let w = run-place records count u a b p l hb (mark_at u a) in
-      rw (prefix_record records count u a b p, lt_ltb a records ha, w.1)
+      rw (prefix_record records count u a b p, lt-ltb a records ha, w.1)
       (ap (place_all records count ls) w.2)
 
   place_no_record : (l : ℕ) (ls u : List ℕ) (a b : ℕ) → Prefix records count u a b → records ≤ a → place_all records count (l ∷ ls) u ≡ placed false u
@@ -304,7 +304,7 @@ module _ (records count : ℕ) where
   place_no_run : (l : ℕ) (ls u : List ℕ) (a b : ℕ) → Prefix records count u a b → a < records → count < b + l → place_all records count (l ∷ ls) u ≡ placed false u
   unfolding place_all
   place_no_run l ls u a b p ha h =
-      rw (prefix_record records count u a b p, lt_ltb a records ha, prefix_nowhere records count u a b p l (omega (arith, p.slots-within)) h)
+      rw (prefix_record records count u a b p, lt-ltb a records ha, prefix_nowhere records count u a b p l (omega (arith, p.slots-within)) h)
 
   -- the sums fit: every size has its place, right behind the used ones
   pub sums_fit : (ls u : List ℕ) (a b : ℕ) → Prefix records count u a b → a + length ls ≤ records → b + total ls ≤ count

@@ -8,7 +8,7 @@ use mathlib.Core.Path.{◌≡◌, refl, sym, ap, ◌∙◌}
 use Prim.Native.Nat.{ℕ, zero, suc, ◌+◌, ◌*◌, ◌-◌, ◌/◌, ◌%◌, ◌^◌, ◌<◌, ◌≤◌}
 use native.Mathlib.Numerals.{add-one}
 use native.Mathlib.Omega.{arith}
-use borrow.Author.Tests.{eqb_true, eqb-false, eq_eqb, ne_eqb, ltb-true, lt_ltb, le-ltb}
+use borrow.Author.Tests.{eqb-true, eqb-false, eq-eqb, ne_eqb, ltb-true, lt-ltb, le-ltb}
 use lib.Dec.{eqb, ltb}
 use lib.ListN.{length, get_or, set, take, drop, replicate, length-set, length-drop, length-replicate, drop_of_length-le}
 use lib.Seq.{sets, sets-eq, get_or-set_same, get_or-set_other, get_or-drop, get_or-take, drop-cons, length-take-le, ext_get_or}
@@ -62,11 +62,11 @@ module _ (records count l : ℕ) (u : List ℕ) (r : ℕ) (lowest : r ≡ first_
   module _ (room : r < records) (f : ℕ) (first : f ≡ first_unused u records count) where
     pub spot_no_run : NoRun ≡ lowest_run u records count l → Nowhere ≡ spot_for records count l u
     unfolding spot_for spot_on
-    spot_no_run e = rw (← lowest, lt_ltb r records room, ← e)
+    spot_no_run e = rw (← lowest, lt-ltb r records room, ← e)
 
     pub spot_here : (s : ℕ) → At s ≡ lowest_run u records count l → Here (spot_at r s f) ≡ spot_for records count l u
     unfolding spot_for spot_on
-    spot_here s e = rw (← lowest, lt_ltb r records room, ← e, ← first)
+    spot_here s e = rw (← lowest, lt-ltb r records room, ← e, ← first)
 
 -- what a spot is
 record Spotted (records count l : ℕ) (u : List ℕ) (p : Spot) : Type 0 where
@@ -133,7 +133,7 @@ module _ (records count l : ℕ) (u : List ℕ) (p : Spot) (map : Mapped records
   -- what is left to place
   spot_places : (ls : List ℕ) → place_all records count (l ∷ ls) u ≡ place_all records count ls after
   unfolding place_all
-  spot_places ls = rw (at.lowest, lt_ltb p.record records at.room, at.run)
+  spot_places ls = rw (at.lowest, lt-ltb p.record records at.room, at.run)
 
   -- its word undone
   spot_undone : Words u → undo_word records (word_of l p.record p.start) after ≡ u
@@ -165,7 +165,7 @@ module _ (records count l : ℕ) (u : List ℕ) (p : Spot) (map : Mapped records
         records-used = λ j h.
             mark_run-out (mark_at u r) (records + p.start) l (0 + j) (inl (omega (arith, at.room)))
             ∙ both (eqb j r)
-            (λ t. let d : 0 + j ≡ r = omega (arith, eqb_true j r t) in rw d (mark-same u r (omega (arith, at.room, map.mapped))))
+            (λ t. let d : 0 + j ≡ r = omega (arith, eqb-true j r t) in rw d (mark-same u r (omega (arith, at.room, map.mapped))))
             (λ t.
             let d : j ≡ r → ⊥ = eqb-false j r t in
             mark-other u r (0 + j) (λ e. d (omega arith)) ∙ lowest.1 j (omega (arith, d)));
@@ -245,7 +245,7 @@ module _ (records count n : ℕ) (list₀ used₀ : List ℕ) (a : Asked records
       fits =
           let e : i ≡ n = omega (arith, g.within) in
           let d : drop n (take n list₀) ≡ [] = drop_of_length-le (take n list₀) {i = n} (omega (arith, length-take-le n list₀ a.within)) in
-          eq_eqb i n e ∙ (rw (e, d) at g.left);
+          eq-eqb i n e ∙ (rw (e, d) at g.left);
       undone = g.undone;
       undoable = rw g.mapped g.undoable;
       long = g.long;
@@ -300,7 +300,7 @@ module _ (records count n : ℕ) (list₀ used₀ : List ℕ) (a : Asked records
                 run = λ j k.
                     both (eqb j i)
                     (λ t.
-                    let d : j ≡ i = eqb_true j i t in
+                    let d : j ≡ i = eqb-true j i t in
                     rw (d, get_or-set_same list i (word_of size p.record p.start) 0 lt, word-start size p.record p.start hr hs, word_size size p.record p.start hr hs)
                     (omega (arith, spot_within records count size used p going_map at, a.map.mapped)))
                     (λ t.
@@ -309,7 +309,7 @@ module _ (records count n : ℕ) (list₀ used₀ : List ℕ) (a : Asked records
                 place = λ j k.
                     both (eqb j i)
                     (λ t.
-                    let d : j ≡ i = eqb_true j i t in
+                    let d : j ≡ i = eqb-true j i t in
                     rw (d, get_or-set_same list i (word_of size p.record p.start) 0 lt, word-record size p.record p.start hr hs)
                     (omega (arith, at.room, a.map.mapped)))
                     (λ t.

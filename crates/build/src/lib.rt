@@ -1,4 +1,6 @@
 // Building a tree over rising keys into lent memory.
+#![tactic(auto)]
+
 pub mod release;
 pub mod room;
 pub mod sizes;
@@ -17,35 +19,35 @@ use model::Model;
 use pool::Node;
 
 // What a build gives: its top node's record, or that there was no room.
-#[derive(Drop)]
+#[derive(Clone, Copy)]
 pub enum Built {
     At(usize),
     NoRoom,
 }
 
 // Where a search for places may start: every record before `record` and every slot before `slot` is used.
-#[derive(Drop)]
+#[derive(Clone, Copy)]
 pub struct Hint {
     pub record: usize,
     pub slot: usize,
 }
 
 // A build's end, with where the next search may start.
-#[derive(Drop)]
+#[derive(Clone, Copy)]
 pub struct Grown {
     pub built: Built,
     pub hint: Hint,
 }
 
 // A node's places: its record, its model with the first slot of its run, and where the next search may start once it has them.
-#[derive(Drop)]
+#[derive(Clone, Copy)]
 struct Place {
     record: usize,
     node: Node,
     next: Hint,
 }
 
-#[derive(Drop)]
+#[derive(Clone, Copy)]
 enum Placed {
     Here(Place),
     Nowhere,

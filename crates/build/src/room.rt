@@ -12,14 +12,14 @@ const SIZE: u64 = 281474976710656;
 const RECORD: u64 = 16777216;
 
 // Where a size goes: its record, the first slot of its run, and the first slot that was unused.
-#[derive(Drop)]
+#[derive(Clone, Copy)]
 struct Spot {
     record: usize,
     start: usize,
     first: usize,
 }
 
-#[derive(Drop)]
+#[derive(Clone, Copy)]
 enum Found {
     Here(Spot),
     Nowhere,

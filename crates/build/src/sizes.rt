@@ -9,7 +9,7 @@ use crate::run_end;
 use model::model_of;
 
 // What a build takes: nodes, slots, and nodes on its longest path.
-#[derive(Drop)]
+#[derive(Clone, Copy)]
 pub struct Needs {
     pub nodes: usize,
     pub slots: usize,

@@ -1,4 +1,6 @@
 // The counters of the nodes on a path: which node an insert makes due, and how they rise.
+#![tactic(auto)]
+
 ghost use Rattle.std.specs.Prelude.{◌≡◌, ◌<◌, ◌≤◌, take};
 ghost use Rattle.pool.specs.Memory.{records_in};
 ghost use Rattle.counters.specs.Counters.{one_more, raised_if, is_due, due_node, due_in, raise_node, raise, OnPath};
@@ -8,7 +10,7 @@ use pool::Node;
 use walk::Path;
 
 // A node's counters, of any value.
-#[derive(Drop)]
+#[derive(Clone, Copy)]
 struct Counters {
     elements: u64,
     built: u64,

@@ -1,4 +1,6 @@
 // Delete: a key taken out.
+#![tactic(auto)]
+
 ghost use Rattle.std.specs.Prelude.{◌≡◌};
 ghost use Rattle.delete.specs.Deleting.{delete_of};
 ghost use Rattle.pool.specs.Memory.{mem};

@@ -9,7 +9,7 @@ use native.Mathlib.Omega.{arith}
 use Prim.Native.Nat.{ℕ, zero, suc, ◌+◌, ◌*◌, ◌-◌, ◌<◌, ◌≤◌, ◌/◌}
 use lib.Dec.{eqb, ltb}
 use lib.ListN.{length, get_or, get_or-eq_default}
-use borrow.Author.Tests.{eqb_true, eqb-false, lt_ltb, le-ltb, ltb-true, ltb-false}
+use borrow.Author.Tests.{eqb-true, eqb-false, lt-ltb, le-ltb, ltb-true, ltb-false}
 use Rattle.build.specs.Building.{lowest_record, lowest_slots, place_node}
 use Rattle.laws.proofs.Tests.{both, le_or_lt}
 use Rattle.marks.proofs.Marks.{bit_at, used-one, unused_zero, same-used-bit, mark-same, mark-other, mark-length, mark-words}
@@ -83,7 +83,7 @@ module _ (R : ℕ) (φ : Cell → ℕ) (x : ℕ) where
       no : a ≤ x → x < a + 0 → ⊥
       no h l = omega arith
   nulls-inside (suc n) a h l = both (eqb x a)
-      (λ e. let d : x ≡ a = eqb_true x a e in rw d (here d))
+      (λ e. let d : x ≡ a = eqb-true x a e in rw d (here d))
       (λ e. let d : x ≡ a → ⊥ = eqb-false x a e in omega (arith, at_other a (φ empty) x d, nulls-inside n (a + 1) (after d) (omega arith)))
     where
       here : x ≡ a → at a (φ empty) a + (0 + in_f R φ a (a + 1) (nulls n)) ≡ φ empty
@@ -94,7 +94,7 @@ module _ (R : ℕ) (φ : Cell → ℕ) (x : ℕ) where
 
 -- where a place is, seen from a node: its record, in its run, or elsewhere
 pub spots : (P : Type 0) (r a l x : ℕ) → (x ≡ r → P) → ((x ≡ r → ⊥) → a ≤ x → x < a + l → P) → ((x ≡ r → ⊥) → (x < a) ⊎ (a + l ≤ x) → P) → P
-spots P r a l x here inside there = both (eqb x r) (λ e. here (eqb_true x r e))
+spots P r a l x here inside there = both (eqb x r) (λ e. here (eqb-true x r e))
     (λ e. ⊎_elim (λ p. ⊎_elim (λ q. there (eqb-false x r e) (inr q)) (λ q. inside (eqb-false x r e) p q) (le_or_lt (a + l) x)) (λ p. there (eqb-false x r e) (inl p)) (le_or_lt a x))
 
 pub record Free (R S : ℕ) (m : Mem) (r s l : ℕ) : Type 0 where
@@ -195,7 +195,7 @@ module _ (R S : ℕ) (m : Mem) (f : Fine R S m) (r lo w s l count : ℕ) (z : Fr
 
   slots_before : (x i : ℕ) → x < R → view R new_node x (in_slot i) ≡ view R m x (in_slot i)
   unfolding view
-  slots_before x i g = rw (lt_ltb x R g)
+  slots_before x i g = rw (lt-ltb x R g)
 
   record_here : (y : Word) → view R new_node r y ≡ cell_w y (node h l)
   record_here bit = record-bit

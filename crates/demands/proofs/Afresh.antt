@@ -7,7 +7,7 @@ use native.Mathlib.Omega.{arith}
 use Prim.Native.Nat.{ℕ, zero, suc, ◌+◌, ◌<◌, ◌≤◌}
 use lib.Dec.{leb, ltb, eqb}
 use lib.ListN.{length, get_or}
-use borrow.Author.Tests.{ne_eqb, eqb_true, eqb-false, ltb-true, ltb-false, leb-true}
+use borrow.Author.Tests.{ne_eqb, eqb-true, eqb-false, ltb-true, ltb-false, leb-true}
 use Rattle.build.specs.Building.{Out, out, build}
 use Rattle.build.specs.Sizes.{depth_of}
 use Rattle.build.specs.declared.Built.TheVariants.{NoRoom}
@@ -71,7 +71,7 @@ module _ (k p : ℕ) where
   pub insert-rises : (l : Map) → Rises l → Rises (insert k p l)
   insert-rises [] r = (tt, tt)
   insert-rises (x ∷ l) r = both (ltb x.0 k) (λ e. rw e (insert_all (λ y. x.0 < y) (ltb-true x.0 k e) l r.0, insert-rises l r.1))
-      (λ e. rw e (both (eqb x.0 k) (λ d. let q : x.0 ≡ k = eqb_true x.0 k d in rw d (rw q at r.0, r.1))
+      (λ e. rw e (both (eqb x.0 k) (λ d. let q : x.0 ≡ k = eqb-true x.0 k d in rw d (rw q at r.0, r.1))
       (λ d. let n : x.0 ≡ k → ⊥ = eqb-false x.0 k d in let z : k ≤ x.0 = ltb-false x.0 k e in
       rw d ((omega arith, all_map (λ y. x.0 < y) (λ y. k < y) l (λ y u. omega arith) r.0), r))))
 

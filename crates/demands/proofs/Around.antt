@@ -5,7 +5,7 @@ use mathlib.Core.Path.{◌≡◌, refl, ap, ◌∙◌}
 use native.Mathlib.Omega.{arith}
 use Prim.Native.Nat.{ℕ, ◌+◌, ◌<◌, ◌≤◌}
 use lib.Dec.{ltb, eqb}
-use borrow.Author.Tests.{lt_ltb, le-ltb, ne_eqb}
+use borrow.Author.Tests.{lt-ltb, le-ltb, ne_eqb}
 use Rattle.laws.specs.Pick.{pick}
 use Rattle.demands.specs.Map.{Map, EachKey, nil, size, member, lookup, insert, delete}
 
@@ -59,7 +59,7 @@ module _ (k : ℕ) where
   module _ (v : ℕ) where
     ins_pre : (a b : Map) → EachKey (λ x. x < k) a → insert k v (a ++ b) ≡ a ++ insert k v b
     ins_pre [] b h = refl
-    ins_pre (x ∷ a) b h = rw (lt_ltb x.0 k h.0) (ap (λ (l : Map). x ∷ l) (ins_pre a b h.1))
+    ins_pre (x ∷ a) b h = rw (lt-ltb x.0 k h.0) (ap (λ (l : Map). x ∷ l) (ins_pre a b h.1))
 
     ins_post : (a b : Map) → EachKey (λ x. k < x) b → insert k v (a ++ b) ≡ insert k v a ++ b
     ins_post [] [] h = refl

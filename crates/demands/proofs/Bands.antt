@@ -6,7 +6,7 @@ use Prim.Native.Nat.{ℕ, zero, suc, zero-le, ◌+◌, ◌<◌, ◌≤◌, min}
 use lib.Dec.{ltb}
 use lib.ListN.{length, take}
 use lib.Seq.{sets}
-use borrow.Author.Tests.{eq_eqb, lt_ltb, le-leb}
+use borrow.Author.Tests.{eq-eqb, lt-ltb, le-leb}
 use Rattle.laws.proofs.Tests.{and_true, true_not_false}
 use Rattle.laws.specs.Answers.{done}
 use Rattle.laws.specs.Keys.{key_bound}
@@ -87,5 +87,5 @@ band_answers h m t g d u v kv uv ks ps e =
     let a : items m (band_rules (records_in m.nodes)) (events_at (Between u v) m longest_path t.at) ≡ held_b (Between u v) 0 (sub t g) =
     reads_all R S m (Between u v) (band_rules (records_in m.nodes)) longest_path t g k.sized k.okay (holds-all R S m _ k) k.deep (band_allowed R S m t g k) in
     let b = lists_shown m u v (taken_b (Between u v) (sub t g)) (held_b (Between u v) 0 (sub t g)) (shows_node R m (Between u v) t g 0 (holds-all R S m _ k)) (length ks) in
-    rw (and_true d.fits (eq_eqb (length ks) (length ps) (sym e)), and_true (lt_ltb u key_bound ku) (lt_ltb v key_bound kv), le-leb u v uv, d.root, a)
+    rw (and_true d.fits (eq-eqb (length ks) (length ps) (sym e)), and_true (lt-ltb u key_bound ku) (lt-ltb v key_bound kv), le-leb u v uv, d.root, a)
     (out-lists m (listing u v (length ks) (held_b (Between u v) 0 (sub t g))) (range u v (flat_f g)) ks ps (subst (λ (r : Map). Lists m (length ks) r (listing u v (length ks) (held_b (Between u v) 0 (sub t g)))) (range-b R S u v (sub t g) k.okay) b))

@@ -8,7 +8,7 @@ use Prim.Native.Nat.{ℕ, suc, ◌+◌, ◌*◌, ◌-◌, ◌<◌, ◌≤◌, �
 use lib.Dec.{eqb}
 use lib.ListN.{length, get_or, set}
 use lib.Seq.{set-get_or}
-use borrow.Author.Tests.{eq_eqb, eqb_true, lt_ltb, le-leb}
+use borrow.Author.Tests.{eq-eqb, eqb-true, lt-ltb, le-leb}
 use Rattle.delete.specs.Deleting.{one_less, delete_of}
 use Rattle.laws.proofs.Tests.{both, true_not_false}
 use Rattle.laws.specs.Answers.{Answer, done, refused_with, not_held}
@@ -67,7 +67,7 @@ module _ (h : Handle) (m : Mem) (t : Head) (g : Forest) (d : Good h m t g) (k : 
 
   pub search_is : search_of h k m ≡ search_as k (visits k t g) (place_of on.first on.rest) on.end
   unfolding search_of
-  search_is = rw (d.fits, lt_ltb k key_bound key, walk_is) (search-end k (visits k t g) (place_of on.first on.rest) on.end on.is_end)
+  search_is = rw (d.fits, lt-ltb k key_bound key, walk_is) (search-end k (visits k t g) (place_of on.first on.rest) on.end on.is_end)
 
   pub flat_is : flat_f g ≡ pre_c (on.first ∷ on.rest) ++ (flat_b on.end ++ post_c (on.first ∷ on.rest))
   flat_is = ap flat_b on.eq ∙ flat_plug (on.first ∷ on.rest) on.end
@@ -176,7 +176,7 @@ module _ (h : Handle) (m : Mem) (t : Head) (g : Forest) (d : Good h m t g) (k : 
       ∙ sym (ap (update k p) flat_was ∙ ap (insert k p) (delete_around k (pre_c (f ∷ c)) ((k, q) ∷ []) (post_c (f ∷ c)) low high ∙ gone) ∙ insert_around k (pre_c (f ∷ c)) [] (post_c (f ∷ c)) low high p)
     where
       gone : pre_c (f ∷ c) ++ (delete k ((k, q) ∷ []) ++ post_c (f ∷ c)) ≡ pre_c (f ∷ c) ++ ([] ++ post_c (f ∷ c))
-      gone = rw (eq_eqb k k refl)
+      gone = rw (eq-eqb k k refl)
 
   replace-holds : (p : ℕ) → Holds h (mem m.nodes (set m.slots (place * 2 + 1) p) m.used) (plug (f ∷ c) (leaf k p))
   replace-holds p =
@@ -192,7 +192,7 @@ module _ (h : Handle) (m : Mem) (t : Head) (g : Forest) (d : Good h m t g) (k : 
       flat_plug (f ∷ c) null ∙ sym (ap (delete k) flat_was ∙ delete_around k (pre_c (f ∷ c)) ((k, q) ∷ []) (post_c (f ∷ c)) low high ∙ gone)
     where
       gone : pre_c (f ∷ c) ++ (delete k ((k, q) ∷ []) ++ post_c (f ∷ c)) ≡ pre_c (f ∷ c) ++ ([] ++ post_c (f ∷ c))
-      gone = rw (eq_eqb k k refl)
+      gone = rw (eq-eqb k k refl)
 
   delete-holds : Holds (one_less h) (mem m.nodes (put_null m.slots place) m.used) (plug (f ∷ c) null)
   delete-holds =
@@ -237,7 +237,7 @@ module _ (h : Handle) (m : Mem) (t : Head) (g : Forest) (d : Good h m t g) (k : 
   at_end null e f c eq w kept s y = (replace_not h m t g k s y, delete_not h m t g k s y)
   at_end (sub r q) e f c eq w kept s y = absurd e
   at_end (leaf j q) e f c eq w kept s y = both (eqb j k)
-      (λ x. let i : j ≡ k = eqb_true j k x in
+      (λ x. let i : j ≡ k = eqb-true j k x in
       held i (s ∙ rw x) (y ∙ rw x))
       (λ x. (replace_not h m t g k (s ∙ rw x) (y ∙ rw x), delete_not h m t g k (s ∙ rw x) (y ∙ rw x)))
     where

@@ -8,7 +8,7 @@ use Prim.Native.Nat.{ℕ, zero, suc, ◌+◌, ◌*◌, ◌-◌, ◌<◌, ◌≤�
 use lib.Dec.{eqb, ltb}
 use lib.ListN.{length, get_or, set, length-set}
 use lib.Seq.{get_or-set_same, get_or-set_other}
-use borrow.Author.Tests.{eqb_true, eqb-false, ltb-true, ltb-false}
+use borrow.Author.Tests.{eqb-true, eqb-false, ltb-true, ltb-false}
 use Rattle.laws.proofs.Tests.{both}
 use Rattle.pool.specs.Memory.{Mem}
 use Rattle.walk.specs.Walks.{longest_path}
@@ -171,7 +171,7 @@ module _ (R : ℕ) (m : Mem) (q a v : ℕ) where
   -- a slot stored: its cell is another
   pub cell_delta : q * 2 + 1 < length m.slots → (b d : Branch) → a ≡ cell_w (in_slot 0) (cell_of d) → v ≡ cell_w (in_slot 1) (cell_of d)
       → ((w : Word) → view R m (R + q) w ≡ cell_w w (cell_of b)) → (x : ℕ) (w : Word) → view R (put_slot m q a v) x w + at (R + q) (cell_w w (cell_of b)) x ≡ view R m x w + at (R + q) (cell_w w (cell_of d)) x
-  cell_delta h b d ea ev r x w = both (eqb x (R + q)) (λ e. here (eqb_true x (R + q) e)) (λ e. there (eqb-false x (R + q) e))
+  cell_delta h b d ea ev r x w = both (eqb x (R + q)) (λ e. here (eqb-true x (R + q) e)) (λ e. there (eqb-false x (R + q) e))
     where
       here : x ≡ R + q → view R (put_slot m q a v) x w + at (R + q) (cell_w w (cell_of b)) x ≡ view R m x w + at (R + q) (cell_w w (cell_of d)) x
       here e = rw (e, at_same (R + q) (cell_w w (cell_of b)), at_same (R + q) (cell_w w (cell_of d)), put_here h b d ea ev r w, r w) (omega arith)

@@ -8,7 +8,7 @@ use native.Mathlib.Omega.{arith}
 use Prim.Native.Nat.{ℕ, zero, suc, ◌+◌, ◌*◌, ◌-◌, ◌<◌, ◌≤◌, ◌/◌, ◌%◌, ◌^◌, max}
 use lib.Dec.{eqb, ltb}
 use lib.ListN.{length, get_or-eq_default}
-use borrow.Author.Tests.{eqb_true, le-ltb}
+use borrow.Author.Tests.{eqb-true, le-ltb}
 use Rattle.laws.proofs.Tests.{both, and_both, le_or_lt}
 use Rattle.laws.specs.Pick.{pick}
 use Rattle.pool.specs.Memory.{Mem, record_words, slot_words}
@@ -98,13 +98,13 @@ slot-word-past i l (node h n) = refl
 
 module _ (R : ℕ) (m : Mem) (t : Branch) where
   all_said : (x : ℕ) → says_all R m t x ≡ true → (w : Word) → view R m x w ≡ in_b R (cell_w w) x t
-  all_said x e bit = eqb_true _ _ (and_both (says R m t x bit) _ e).0
+  all_said x e bit = eqb-true _ _ (and_both (says R m t x bit) _ e).0
   all_said x e (in_node i) =
       let a = (and_both _ (all_below (λ j. says R m t x (in_slot j)) slot_words) (and_both (says R m t x bit) _ e).1).0 in
-      ⊎_elim (λ l. node-past R m x i l ∙ sym (zero_b R (cell_w (in_node i)) x (node-word-past i l) t)) (λ l. eqb_true _ _ (all_at (λ j. says R m t x (in_node j)) record_words a i l)) (le_or_lt 8 i)
+      ⊎_elim (λ l. node-past R m x i l ∙ sym (zero_b R (cell_w (in_node i)) x (node-word-past i l) t)) (λ l. eqb-true _ _ (all_at (λ j. says R m t x (in_node j)) record_words a i l)) (le_or_lt 8 i)
   all_said x e (in_slot i) =
       let a = (and_both (all_below (λ j. says R m t x (in_node j)) record_words) _ (and_both (says R m t x bit) _ e).1).1 in
-      ⊎_elim (λ l. slot-past R m x i l ∙ sym (zero_b R (cell_w (in_slot i)) x (slot-word-past i l) t)) (λ l. eqb_true _ _ (all_at (λ j. says R m t x (in_slot j)) slot_words a i l)) (le_or_lt 2 i)
+      ⊎_elim (λ l. slot-past R m x i l ∙ sym (zero_b R (cell_w (in_slot i)) x (slot-word-past i l) t)) (λ l. eqb-true _ _ (all_at (λ j. says R m t x (in_slot j)) slot_words a i l)) (le_or_lt 2 i)
 
   -- past n, memory says nothing either
   view-past : (n : ℕ) → R ≤ n → length m.slots ≤ (n - R) * 2 → length m.used * 64 ≤ n → (x : ℕ) → n ≤ x → (w : Word) → view R m x w ≡ 0

@@ -5,7 +5,7 @@ use mathlib.Core.List.{List, map}
 use mathlib.Core.Path.{◌≡◌, refl, ◌∙◌}
 use Prim.Native.Nat.{ℕ, ◌+◌, ◌≤◌}
 use native.Mathlib.Omega.{arith}
-use borrow.Author.Tests.{eqb_true}
+use borrow.Author.Tests.{eqb-true}
 use lib.Dec.{ltb, leb, eqb}
 use lib.ListN.{length, get_or, drop, length-map}
 use lib.Seq.{sets, sets-eq, drop_at}
@@ -115,7 +115,7 @@ module _ (h : Handle) (u v : ℕ) (m : Mem) (ks ps : List ℕ) where
   band-past =
       both (handle_fits h m && eqb (length ks) (length ps))
       (λ e.
-      let s : length ks ≡ length ps = eqb_true (length ks) (length ps) (and_both (handle_fits h m) (eqb (length ks) (length ps)) e).1 in
+      let s : length ks ≡ length ps = eqb-true (length ks) (length ps) (and_both (handle_fits h m) (eqb (length ks) (length ps)) e).1 in
       rw e
       (pick_in (KeepsPast ks ps) (ltb u key_bound && ltb v key_bound) _ _
       (pick_in (KeepsPast ks ps) (leb u v) _ _ (out-past s) (refl, refl))

@@ -9,7 +9,7 @@ use Prim.Native.Nat.{ℕ, zero, suc, zero-le, ◌+◌, ◌*◌, ◌<◌, ◌≤�
 use lib.Dec.{eqb, ltb}
 use lib.ListN.{length, get_or, take}
 use lib.Seq.{sets}
-use borrow.Author.Tests.{lt_ltb, le-ltb, ltb-true, ltb-false, eqb-false}
+use borrow.Author.Tests.{lt-ltb, le-ltb, ltb-true, ltb-false, eqb-false}
 use Rattle.insert.specs.Inserting.{Insert, insert_of, not_due}
 use Rattle.laws.proofs.Tests.{true_not_false}
 use Rattle.laws.specs.Answers.{Answer, done}
@@ -146,7 +146,7 @@ module _ (h : Handle) (m : Mem) (t : Head) (g : Forest) (d : Good h m t g) (k p 
       record {
         held = a.0;
         full = (λ x. ((a.1.0 x).0, no_space (a.1.0 x).1), λ x. a.1.1 (x.0, le-ltb h.count h.capacity (at_most x.1)));
-        lacks = (λ x. ((a.2.0 x).0, ltb-true h.count h.capacity (a.2.0 x).1, (a.2.0 x).2), λ x. a.2.1 (x.0, lt_ltb h.count h.capacity x.1, x.2));
+        lacks = (λ x. ((a.2.0 x).0, ltb-true h.count h.capacity (a.2.0 x).1, (a.2.0 x).2), λ x. a.2.1 (x.0, lt-ltb h.count h.capacity x.1, x.2));
         sound = a.3;
       }
     where

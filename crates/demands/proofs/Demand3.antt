@@ -7,7 +7,7 @@ use native.Mathlib.Omega.{arith}
 use Prim.Native.Nat.{ℕ, zero, suc, ◌+◌, ◌<◌, ◌≤◌}
 use lib.Dec.{eqb, ltb, leb}
 use lib.ListN.{length, get_or}
-use borrow.Author.Tests.{eqb_true, eqb-false, eq_eqb, ne_eqb, ltb-true, leb-true}
+use borrow.Author.Tests.{eqb-true, eqb-false, eq-eqb, ne_eqb, ltb-true, leb-true}
 use Rattle.delete.specs.Deleting.{one_less, delete_of}
 use Rattle.insert.specs.Inserting.{Insert, insertion, insert_of, scratch_fits, not_due, put_off, tidied, whole_tree}
 use Rattle.laws.proofs.Tests.{both, and_true}
@@ -57,7 +57,7 @@ pub record Keeps (s : State) : Type 0 where
 
 -- a test of a number that is or is not 0
 when-done : {A : Type 0} (a : Answer ℕ) (x y : A) → a.number ≡ 0 → when_done a x y ≡ x
-when-done a x y e = ap (λ (b : Bool). pick b x y) (eq_eqb a.number 0 e)
+when-done a x y e = ap (λ (b : Bool). pick b x y) (eq-eqb a.number 0 e)
 
 when_not : {A : Type 0} (a : Answer ℕ) (x y : A) → (a.number ≡ 0 → ⊥) → when_done a x y ≡ y
 when_not a x y n = ap (λ (b : Bool). pick b x y) (ne_eqb a.number 0 n)
@@ -275,13 +275,13 @@ module _ (h : Handle) (m : Mem) (t : Head) (g : Forest) (d : Good h m t g) where
       sized : eqb (length ks) (length ps) ≡ true → (band_of h u v m ks ps).answer.number ≡ 9 → ⊥
       sized e = both (ltb v key_bound)
           (λ f. both (leb u v)
-          (λ l q. (eqb-false 0 9 refl) (sym (ap (λ (y : Band). y.answer.number) (band_answers h m t g d u v (ltb-true v key_bound f) (leb-true u v l) ks ps (sym (eqb_true (length ks) (length ps) e)))) ∙ q))
+          (λ l q. (eqb-false 0 9 refl) (sym (ap (λ (y : Band). y.answer.number) (band_answers h m t g d u v (ltb-true v key_bound f) (leb-true u v l) ks ps (sym (eqb-true (length ks) (length ps) e)))) ∙ q))
           (λ l q. reversed_or l f e q))
-          (λ f q. (eqb-false 2 9 refl) (sym (ap (λ (y : Band). y.answer.number) (band-range h u v m ks ps d.fits e (and_false (ltb u key_bound) (ltb v key_bound) f))) ∙ q))
+          (λ f q. (eqb-false 2 9 refl) (sym (ap (λ (y : Band). y.answer.number) (band-range h u v m ks ps d.fits e (and-false (ltb u key_bound) (ltb v key_bound) f))) ∙ q))
         where
-          and_false : (a b : Bool) → b ≡ false → (a && b) ≡ false
-          and_false true b e = e
-          and_false false b e = refl
+          and-false : (a b : Bool) → b ≡ false → (a && b) ≡ false
+          and-false true b e = e
+          and-false false b e = refl
 
           reversed_or : leb u v ≡ false → ltb v key_bound ≡ true → eqb (length ks) (length ps) ≡ true → (band_of h u v m ks ps).answer.number ≡ 9 → ⊥
           reversed_or l f e q = both (ltb u key_bound)
@@ -298,7 +298,7 @@ keeps-map {h} {m} {l} k f n h' m' c = subst (λ (x : Map). Comes n h h' m m' (f 
 load_after : (h : Handle) (m : Mem) (l : Map) (c : ℕ) (ks ps : List ℕ) → Keeps (state h m l) → Keeps (after_load h (bulkload ks ps) l (load_of c ks ps m))
 load_after h m l c ks ps k = both (eqb (load_of c ks ps m).answer.number 0)
     (λ e.
-    let z = eqb_true (load_of c ks ps m).answer.number 0 e in
+    let z = eqb-true (load_of c ks ps m).answer.number 0 e in
     keeps_as _ _ _ _ _ _ (sym (when-done (load_of c ks ps m).answer (load_of c ks ps m).handle h z)) refl (sym (when-done (load_of c ks ps m).answer (bulkload ks ps) l z)) (accepted-keeps c ks ps m z))
     (λ e.
     let n = eqb-false (load_of c ks ps m).answer.number 0 e in

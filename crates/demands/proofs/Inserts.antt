@@ -6,7 +6,7 @@ use mathlib.Core.Logic.{⊎_elim}
 use mathlib.Core.Path.{◌≡◌, refl, sym, ◌∙◌}
 use Prim.Native.Nat.{ℕ, zero, suc, ◌+◌, ◌<◌, ◌≤◌}
 use native.Mathlib.Omega.{arith}
-use borrow.Author.Tests.{leb-true, leb-false, eqb_true, eqb-false, lt_ltb, le-ltb}
+use borrow.Author.Tests.{leb-true, leb-false, eqb-true, eqb-false, lt-ltb, le-ltb}
 use lib.Dec.{ltb, leb, eqb}
 use lib.ListN.{length, get_or, replicate, length-replicate}
 use lib.Seq.{sets, sets-eq}
@@ -88,17 +88,17 @@ module _ (h : Handle) (m : Mem) (s : Scratch) where
     -- where the path has 24 nodes, the subtree to be rebuilt is the root's
     deep-sound : (path : List ℕ) → longest_path ≤ length path → get_or path 0 0 ≡ h.root → sound_due h.capacity k path 0 m ≡ sound_below h.capacity k 0 h.root m
     unfolding sound_due
-    deep-sound path l e = rw (lt_ltb 0 (length path) (omega arith), e)
+    deep-sound path l e = rw (lt-ltb 0 (length path) (omega arith), e)
 
     module _ (path : List ℕ) (root : get_or path 0 0 ≡ h.root) (count : h.count ≤ h.capacity) where
       space : eqb h.count h.capacity ≡ false → ltb h.count h.capacity ≡ true
-      space e = lt_ltb h.count h.capacity (smaller h.count h.capacity count (eqb-false h.count h.capacity e))
+      space e = lt-ltb h.count h.capacity (smaller h.count h.capacity count (eqb-false h.count h.capacity e))
         where
           smaller : (a b : ℕ) → a ≤ b → (a ≡ b → ⊥) → a < b
           smaller a b le n = ⊎_elim (λ g. absurd (n (omega arith))) (λ g. g) (le_or_lt b a)
 
       no_space : eqb h.count h.capacity ≡ true → ltb h.count h.capacity ≡ false
-      no_space e = le-ltb h.count h.capacity (omega (arith, eqb_true h.count h.capacity e))
+      no_space e = le-ltb h.count h.capacity (omega (arith, eqb-true h.count h.capacity e))
 
       -- the causes after 5, of what the path's end asks for
       full-order : (x : End) (y : Insert)
@@ -119,7 +119,7 @@ module _ (h : Handle) (m : Mem) (s : Scratch) where
           (λ l.
           let n : longest_path ≤ length path = leb-true longest_path (length path) l in
           rw (l, le-ltb (length path) longest_path n, deep-sound path n root) whole-order)
-          (λ l. rw (l, lt_ltb (length path) longest_path (leb-false longest_path (length path) l)) (settle-order (fresh k p q true j path) (due_in m.nodes true path)))
+          (λ l. rw (l, lt-ltb (length path) longest_path (leb-false longest_path (length path) l)) (settle-order (fresh k p q true j path) (due_in m.nodes true path)))
 
       end-order : (x : End)
           → GoesBy
@@ -245,7 +245,7 @@ module _ (h : Handle) (s : Scratch) where
         conflict_wipes q j =
             both (leb longest_path (length path))
             (λ l. rw (l, le-ltb (length path) longest_path (leb-true longest_path (length path) l), root) whole_wipes)
-            (λ l. rw (l, lt_ltb (length path) longest_path (leb-false longest_path (length path) l)) (settle_wipes (fresh k p q true j path) (due_in m.nodes true path)))
+            (λ l. rw (l, lt-ltb (length path) longest_path (leb-false longest_path (length path) l)) (settle_wipes (fresh k p q true j path) (due_in m.nodes true path)))
 
         end_wipes : (x : End) → Wipes (too_deep (walk x path)) (tried_over h k m (walk x path)) s (insert_end h k p m s path x)
         unfolding insert_end settle_of pair_if

@@ -8,7 +8,7 @@ use native.Mathlib.Omega.{arith}
 use Prim.Native.Nat.{ℕ, zero, suc, zero-le, ◌+◌, ◌<◌, ◌≤◌}
 use lib.Dec.{ltb, leb}
 use lib.ListN.{get_or, take}
-use borrow.Author.Tests.{lt-leb, lt_ltb, le-ltb}
+use borrow.Author.Tests.{lt-leb, lt-ltb, le-ltb}
 use Rattle.laws.proofs.Tests.{both, le_or_lt}
 use Rattle.laws.specs.Pick.{pick}
 use Rattle.listing.specs.Listing.{Listing, none, first, listing}
@@ -164,10 +164,10 @@ lists-none : (m : Mem) (room : ℕ) → Lists m room [] (none 0)
 lists-none m room = record { sound = refl; keys = sym (take_none room); payloads = sym (take_none room); more = rw (le-ltb room 0 zero-le) }
 
 shift : (a b : ℕ) → ltb a b ≡ ltb (suc a) (suc b)
-shift a b = ⊎_elim (λ h. le-ltb a b h ∙ sym (le-ltb (suc a) (suc b) (omega arith))) (λ h. lt_ltb a b h ∙ sym (lt_ltb (suc a) (suc b) (omega arith))) (le_or_lt b a)
+shift a b = ⊎_elim (λ h. le-ltb a b h ∙ sym (le-ltb (suc a) (suc b) (omega arith))) (λ h. lt-ltb a b h ∙ sym (lt-ltb (suc a) (suc b) (omega arith))) (le_or_lt b a)
 
 full-step : (m : Mem) (b : Bool) (x : ℕ × ℕ) (r : Map) (y : Listing) → Lists m 0 r y → Lists m 0 (pick b (x ∷ r) r) (pick b (none 1) y)
-full-step m true x r y l = record { sound = refl; keys = refl; payloads = refl; more = rw (lt_ltb 0 (suc (size r)) (omega arith)) }
+full-step m true x r y l = record { sound = refl; keys = refl; payloads = refl; more = rw (lt-ltb 0 (suc (size r)) (omega arith)) }
 full-step m false x r y l = l
 
 room-step : (m : Mem) (b : Bool) (room q k : ℕ) (x : ℕ × ℕ) (r : Map) (y z : Listing) → k ≡ x.0 → get_or m.slots (payload_word q) 0 ≡ x.1 → Lists m room r y → Lists m (suc room) r z

@@ -8,7 +8,7 @@ use native.Mathlib.Omega.{arith}
 use Prim.Native.Nat.{ℕ, zero, suc, zero-le, ◌+◌, ◌-◌, ◌<◌, ◌≤◌}
 use lib.Dec.{leb}
 use lib.ListN.{length, take}
-use borrow.Author.Tests.{lt-leb, le-leb, lt_ltb, le-ltb, ne_eqb}
+use borrow.Author.Tests.{lt-leb, le-leb, lt-ltb, le-ltb, ne_eqb}
 use Rattle.laws.proofs.Tests.{both, le_or_lt, and_true}
 use Rattle.laws.specs.Keys.{key_bound}
 use Rattle.listing.specs.Listing.{listing}
@@ -71,7 +71,7 @@ module _ (k p : ℕ) where
   insert-low : (x : ℕ × ℕ) (l : Map) → x.0 < k → insert k p l ≡ range 0 k l ++ ((k, p) ∷ range k last_key l) → insert k p (x ∷ l) ≡ range 0 k (x ∷ l) ++ ((k, p) ∷ range k last_key (x ∷ l))
   insert-low x l h ih =
       let le : x.0 ≤ k = omega arith in
-      rw (lt_ltb x.0 k h, le-leb 0 x.0 zero-le, le-leb x.0 k le, lt-leb k x.0 h) (ap (λ (r : Map). x ∷ r) ih)
+      rw (lt-ltb x.0 k h, le-leb 0 x.0 zero-le, le-leb x.0 k le, lt-leb k x.0 h) (ap (λ (r : Map). x ∷ r) ih)
 
   insert-high : (x : ℕ × ℕ) (l : Map) → k < x.0 → EachKey (λ y. k < y) (x ∷ l) → EachKey (λ y. y < key_bound) (x ∷ l) → insert k p (x ∷ l) ≡ range 0 k (x ∷ l) ++ ((k, p) ∷ range k last_key (x ∷ l))
   insert-high x l h a b =

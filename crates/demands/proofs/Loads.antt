@@ -7,7 +7,7 @@ use native.Mathlib.Omega.{arith}
 use Prim.Native.Nat.{ℕ, zero, suc, zero-le, ◌+◌, ◌*◌, ◌-◌, ◌<◌, ◌≤◌, ◌/◌, ◌%◌, ◌^◌}
 use lib.Dec.{ltb}
 use lib.ListN.{length, get_or, replicate, length-replicate}
-use borrow.Author.Tests.{lt_ltb, le-leb, eqb_true}
+use borrow.Author.Tests.{lt-ltb, le-leb, eqb-true}
 use Rattle.build.specs.Building.{Out, build}
 use Rattle.laws.proofs.Risings.{rising_tail}
 use Rattle.laws.proofs.Tests.{and_both}
@@ -36,7 +36,7 @@ fault_free : (i least : ℕ) (ks : List ℕ) → ((j : ℕ) → j < length ks �
 unfolding fault_from
 fault_free i least [] h r = refl
 fault_free i least (k ∷ ks) h r =
-    rw (lt_ltb k key_bound (r.below 0 (omega arith)), le-leb least k (h 0 (omega arith)))
+    rw (lt-ltb k key_bound (r.below 0 (omega arith)), le-leb least k (h 0 (omega arith)))
     (fault_free (i + 1) (k + 1) ks (λ j l. let a = r.rises 0 (suc j) (omega arith) (omega arith) in omega arith) (rising_tail k ks r))
 
 pub rises_faultless : (ks : List ℕ) → Rising ks → first_fault ks ≡ Nothing
@@ -93,7 +93,7 @@ given c ks ps m e =
     let b = and_both (pools_are (records_in m.nodes) (slots_in m.slots) m) _ a.1 in
     let l = limits_given _ _ _ a.0 in
     let p = pools_given _ _ _ b.0 in
-    record { limits = l; sized = record { nodes = p.nodes-are; slots = p.slots-are; used = p.map_is; few = omega (arith, l.records-most) }; same = sym (eqb_true _ _ b.1) }
+    record { limits = l; sized = record { nodes = p.nodes-are; slots = p.slots-are; used = p.map_is; few = omega (arith, l.records-most) }; same = sym (eqb-true _ _ b.1) }
 
 module _ (c : ℕ) (ks ps : List ℕ) (m : Mem) (fits : load_fits c ks ps m ≡ true) (few : length ks ≤ c) (rises : Rising ks) where
   gv : Given c ks ps m

@@ -7,7 +7,7 @@ use native.Mathlib.Omega.{arith}
 use Prim.Native.Nat.{ℕ, suc, zero-le, ◌+◌, ◌<◌, ◌≤◌}
 use lib.Dec.{eqb, leb}
 use lib.ListN.{length, get_or}
-use borrow.Author.Tests.{eqb_true, eq_eqb, ne_eqb, le-leb, lt-leb}
+use borrow.Author.Tests.{eqb-true, eq-eqb, ne_eqb, le-leb, lt-leb}
 use Rattle.build.specs.Building.{payloads_to}
 use Rattle.laws.proofs.Risings.{rising_tail}
 use Rattle.laws.proofs.Tests.{both, le_or_lt}
@@ -32,7 +32,7 @@ from_s md s (x ∷ l) = pick (leb s (slot_of md x.0)) (x ∷ from_s md s l) (fro
 module _ (md : Model) (s : ℕ) where
   pub at_each : (l : Map) → EachKey (λ k. slot_of md k ≡ s) (at_s md s l)
   at_each [] = tt
-  at_each (x ∷ l) = both (eqb (slot_of md x.0) s) (λ e. rw e (eqb_true (slot_of md x.0) s e, at_each l)) (λ e. rw e (at_each l))
+  at_each (x ∷ l) = both (eqb (slot_of md x.0) s) (λ e. rw e (eqb-true (slot_of md x.0) s e, at_each l)) (λ e. rw e (at_each l))
 
   pub at_all : (P : ℕ → Type 0) (l : Map) → EachKey P l → EachKey P (at_s md s l)
   at_all P [] h = tt
@@ -78,7 +78,7 @@ module _ (md : Model) (range : InRange md) where
       here a =
           let b : s ≤ slot_of md x.0 = omega arith in
           let c : slot_of md x.0 < s + 1 = omega arith in
-          rw (le-leb s (slot_of md x.0) b, eq_eqb (slot_of md x.0) s a, lt-leb (s + 1) (slot_of md x.0) c) (ap (λ (q : Map). x ∷ q) ih)
+          rw (le-leb s (slot_of md x.0) b, eq-eqb (slot_of md x.0) s a, lt-leb (s + 1) (slot_of md x.0) c) (ap (λ (q : Map). x ∷ q) ih)
 
       high : s + 1 ≤ slot_of md x.0 → from_s md s (x ∷ l) ≡ at_s md s (x ∷ l) ++ from_s md (s + 1) (x ∷ l)
       high a =

@@ -8,7 +8,7 @@ use native.Mathlib.Omega.{arith}
 use Prim.Native.Nat.{ℕ, zero, suc, ◌+◌, ◌<◌, ◌≤◌, max}
 use lib.Dec.{eqb}
 use lib.ListN.{length}
-use borrow.Author.Tests.{eq_eqb, ne_eqb}
+use borrow.Author.Tests.{eq-eqb, ne_eqb}
 use Rattle.laws.proofs.Tests.{both, le_or_lt}
 use Rattle.model.proofs.Slots.{slot_under, slot-rises}
 use Rattle.model.specs.Slots.{InRange}
@@ -32,7 +32,7 @@ slot_lt lo w l r k = slot_under (model_in lo w l) r k
 -- one cell
 pub at_same : (a v : ℕ) → at a v a ≡ v
 unfolding at
-at_same a v = rw (eq_eqb a a refl)
+at_same a v = rw (eq-eqb a a refl)
 
 pub at_other : (a v x : ℕ) → (x ≡ a → ⊥) → at a v x ≡ 0
 unfolding at

@@ -8,7 +8,7 @@ use Prim.Native.Nat.{ℕ, zero, suc, ◌+◌, ◌*◌, ◌<◌, ◌≤◌}
 use lib.Dec.{eqb, ltb}
 use lib.ListN.{length, get_or, set, length-set}
 use lib.Seq.{get_or-set_same, get_or-set_other}
-use borrow.Author.Tests.{eqb_true, eqb-false, lt_ltb, ltb-true}
+use borrow.Author.Tests.{eqb-true, eqb-false, lt-ltb, ltb-true}
 use Rattle.counters.specs.Counters.{one_more, raised_if, raise_elements, raise_conflicts, raise_node, raise}
 use Rattle.laws.proofs.Tests.{both}
 use Rattle.pool.specs.Memory.{Mem}
@@ -36,7 +36,7 @@ module _ (R : ℕ) (m : Mem) (r i v : ℕ) (ri : r < R) (i8 : i < 8) (size : len
 
   word_beside : (j : ℕ) → (j ≡ i → ⊥) → view R (put_word m r i v) r (in_node j) ≡ view R m r (in_node j)
   unfolding view
-  word_beside j n = both (ltb j 8) (λ e. rw (e, lt_ltb r R ri) (get_or-set_other m.nodes (r * 8 + i) (r * 8 + j) v 0 (omega arith))) (λ e. rw e)
+  word_beside j n = both (ltb j 8) (λ e. rw (e, lt-ltb r R ri) (get_or-set_other m.nodes (r * 8 + i) (r * 8 + j) v 0 (omega arith))) (λ e. rw e)
 
   word_here : view R (put_word m r i v) r (in_node i) ≡ v
   word_here = view-node R (put_word m r i v) r i ri i8 ∙ get_or-set_same m.nodes (r * 8 + i) v 0 (omega arith)
@@ -49,10 +49,10 @@ module _ (R : ℕ) (m : Mem) (r i v : ℕ) (ri : r < R) (i8 : i < 8) (size : len
     word-reads bit = reads bit
     word-reads (in_slot j) = reads (in_slot j)
     word-reads (in_node j) =
-        both (eqb j i) (λ e. let d : j ≡ i = eqb_true j i e in rw d (word_here ∙ new)) (λ e. word_beside j (eqb-false j i e) ∙ reads (in_node j) ∙ old j (eqb-false j i e))
+        both (eqb j i) (λ e. let d : j ≡ i = eqb-true j i e in rw d (word_here ∙ new)) (λ e. word_beside j (eqb-false j i e) ∙ reads (in_node j) ∙ old j (eqb-false j i e))
 
     pub word_delta : (x : ℕ) (w : Word) → view R (put_word m r i v) x w + at r (cell_w w (node h l)) x ≡ view R m x w + at r (cell_w w (node o l)) x
-    word_delta x w = both (eqb x r) (λ e. here (eqb_true x r e)) (λ e. there (eqb-false x r e))
+    word_delta x w = both (eqb x r) (λ e. here (eqb-true x r e)) (λ e. there (eqb-false x r e))
       where
         here : x ≡ r → view R (put_word m r i v) x w + at r (cell_w w (node h l)) x ≡ view R m x w + at r (cell_w w (node o l)) x
         here e = rw (e, at_same r (cell_w w (node h l)), at_same r (cell_w w (node o l)), word-reads w, reads w) (omega arith)

@@ -5,7 +5,7 @@ use mathlib.Core.Path.{◌≡◌, refl, sym, ap, ◌∙◌}
 use native.Mathlib.Omega.{arith}
 use Prim.Native.Nat.{ℕ, ◌+◌, ◌<◌, ◌≤◌}
 use lib.Dec.{eqb}
-use borrow.Author.Tests.{eq_eqb, ne_eqb, eqb_true, eqb-false}
+use borrow.Author.Tests.{eq-eqb, ne_eqb, eqb-true, eqb-false}
 use Rattle.laws.proofs.Tests.{both}
 use Rattle.laws.specs.Pick.{pick}
 use Rattle.marks.proofs.Marks.{used-one, unused_zero}
@@ -34,10 +34,10 @@ module _ (R S : ℕ) where
     nodes-f (cons b f) a r h l = omega (arith, at_other a 1 r (λ e. omega arith), nodes-b b r h, nodes-f f (a + 1) r h (omega arith))
 
   shift : (a q : ℕ) → at (R + a) 1 (R + q) ≡ pick (eqb q a) 1 0
-  shift a q = at_one (R + a) (R + q) ∙ ap (λ (x : Bool). pick {A = ℕ} x 1 0) (both (eqb q a) (λ e. same (eqb_true q a e) ∙ sym e) (λ e. other (eqb-false q a e) ∙ sym e))
+  shift a q = at_one (R + a) (R + q) ∙ ap (λ (x : Bool). pick {A = ℕ} x 1 0) (both (eqb q a) (λ e. same (eqb-true q a e) ∙ sym e) (λ e. other (eqb-false q a e) ∙ sym e))
     where
       same : q ≡ a → eqb (R + q) (R + a) ≡ true
-      same e = eq_eqb (R + q) (R + a) (omega arith)
+      same e = eq-eqb (R + q) (R + a) (omega arith)
 
       other : (q ≡ a → ⊥) → eqb (R + q) (R + a) ≡ false
       other n = ne_eqb (R + q) (R + a) (λ e. n (omega arith))

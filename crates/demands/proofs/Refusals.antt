@@ -6,7 +6,7 @@ use mathlib.Core.Logic.{inl, inr}
 use mathlib.Core.Path.{◌≡◌, refl, sym, ap, subst, ◌∙◌}
 use Prim.Native.Nat.{ℕ, zero, suc, ◌/◌, ◌%◌, ◌≤◌}
 use native.Mathlib.Omega.{arith}
-use borrow.Author.Tests.{leb-true, leb-false, ltb-true, ltb-false, eqb_true, eqb-false, le-leb, lt-leb, lt_ltb, le-ltb}
+use borrow.Author.Tests.{leb-true, leb-false, ltb-true, ltb-false, eqb-true, eqb-false, le-leb, lt-leb, lt-ltb, le-ltb}
 use lib.Dec.{ltb, leb, eqb}
 use lib.IntN.{ℤ}
 use lib.ListN.{length, get_or, set}
@@ -75,7 +75,7 @@ is_in x (n ∷ ns) = pick (eqb x n) true (is_in x ns)
 
 is_one_of : (x : ℕ) (ns : List ℕ) → is_in x ns ≡ true → OneOf x ns
 is_one_of x [] e = let z : ◌≡◌ {A = ℕ} 0 1 = cc in omega arith
-is_one_of x (n ∷ ns) e = both (eqb x n) (λ t. inl (eqb_true x n t)) (λ t. inr (is_one_of x ns (rw t at e)))
+is_one_of x (n ∷ ns) e = both (eqb x n) (λ t. inl (eqb-true x n t)) (λ t. inr (is_one_of x ns (rw t at e)))
 
 -- 0 and the numbers of the causes are among these
 abbrev pub numbers_in : {A : Type 0} → List ℕ → List (Cause A) → Bool
@@ -130,7 +130,7 @@ pub not_below : (a b : ℕ) → leb b a ≡ true → ltb a b ≡ false
 not_below a b e = le-ltb a b (leb-true b a e)
 
 pub below : (a b : ℕ) → leb b a ≡ false → ltb a b ≡ true
-below a b e = lt_ltb a b (leb-false b a e)
+below a b e = lt-ltb a b (leb-false b a e)
 
 over : (a b : ℕ) → ltb b a ≡ true → leb a b ≡ false
 over a b e = lt-leb a b (ltb-true b a e)
@@ -245,7 +245,7 @@ delete-order h k m =
     refl refl refl (λ v. refl) (refuse damage (eqb h.count 0) ∷ [])
     (λ q v.
     in_turn _ _ _ _ _
-    (λ e. rw (lt-leb 1 h.count (omega (arith, eqb_true h.count 0 e))))
+    (λ e. rw (lt-leb 1 h.count (omega (arith, eqb-true h.count 0 e))))
     (λ e. none-holds _ (rw (le-leb 1 h.count (positive h.count (eqb-false h.count 0 e))))))
 
 -- band

@@ -9,7 +9,7 @@ use native.Mathlib.Omega.{arith}
 use Prim.Native.Nat.{ℕ, zero, suc, ◌+◌, ◌*◌, ◌-◌, ◌<◌, ◌≤◌}
 use lib.Dec.{eqb, ltb}
 use lib.ListN.{length, get_or}
-use borrow.Author.Tests.{eqb_true, eqb-false, lt_ltb, le-ltb}
+use borrow.Author.Tests.{eqb-true, eqb-false, lt-ltb, le-ltb}
 use Rattle.build.specs.Releasing.{drop_node, release_slot, release_slots, release_record, release}
 use Rattle.laws.proofs.Tests.{both, le_or_lt}
 use Rattle.laws.specs.Pick.{pick}
@@ -75,7 +75,7 @@ cells_inside x nil a h l = absurd (no h l)
     no : a ≤ x → x < a + 0 → ⊥
     no h l = omega arith
 cells_inside x (cons b f) a h l = both (eqb x a)
-    (λ e. let d : x ≡ a = eqb_true x a e in omega (arith, subst⁻¹ (λ (y : ℕ). at a 1 y ≡ 1) d (at_same a 1)))
+    (λ e. let d : x ≡ a = eqb-true x a e in omega (arith, subst⁻¹ (λ (y : ℕ). at a 1 y ≡ 1) d (at_same a 1)))
     (λ e. omega (arith, cells_inside x f (a + 1) (after (eqb-false x a e)) (omega arith)))
   where
     after : (x ≡ a → ⊥) → a + 1 ≤ x
@@ -132,7 +132,7 @@ module _ (R S : ℕ) (m : Mem) (fine : Fine R S m) (h : Head) (g : Forest) (ok :
 
   slots_before : (x i : ℕ) → x < R → view R o x (in_slot i) ≡ 0
   unfolding view
-  slots_before x i e = rw (lt_ltb x R e) (same (ltb i 2))
+  slots_before x i e = rw (lt-ltb x R e) (same (ltb i 2))
     where
       same : (b : Bool) → pick {A = ℕ} b 0 0 ≡ 0
       same true = refl

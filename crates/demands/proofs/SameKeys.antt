@@ -6,7 +6,7 @@ use mathlib.Core.Path.{◌≡◌, sym, subst, ap, ◌∙◌}
 use native.Mathlib.Omega.{arith}
 use Prim.Native.Nat.{ℕ, ◌+◌, ◌<◌, ◌≤◌, ◌^◌}
 use lib.Dec.{eqb}
-use borrow.Author.Tests.{eq_eqb, eqb_true}
+use borrow.Author.Tests.{eq-eqb, eqb-true}
 use Rattle.laws.proofs.Tests.{both, true_not_false, le_or_lt}
 use Rattle.laws.specs.Keys.{key_bound}
 use Rattle.pool.specs.Memory.{Mem}
@@ -41,7 +41,7 @@ at_else a v x f = rw f
 module _ (R x k : ℕ) (key : k < key_bound) where
   key_of-cell : (b : Branch) → cell_w (in_slot 0) (cell_of b) ≡ 2 ^ 48 + k → member k (flat_b b) ≡ true
   key_of-cell null e = absurd (omega arith)
-  key_of-cell (leaf j p) e = let s : j ≡ k = omega arith in rw (eq_eqb j k s)
+  key_of-cell (leaf j p) e = let s : j ≡ k = omega arith in rw (eq-eqb j k s)
   key_of-cell (sub h g) e = absurd (omega arith)
 
   mutual
@@ -71,7 +71,7 @@ no_payload p e = let z : ◌≡◌ {A = ℕ} 6 0 = ap (λ (f : Found). (found_as
 
 found-cell : (k p : ℕ) (b : Branch) → End b → lookup k (flat_b b) ≡ is p → cell_w (in_slot 0) (cell_of b) ≡ 2 ^ 48 + k
 found-cell k p null i e = absurd (no_payload p e)
-found-cell k p (leaf j q) i e = both (eqb j k) (λ t. ap (λ (n : ℕ). 2 ^ 48 + n) (eqb_true j k t)) (λ f. absurd (no_payload p (rw f at e)))
+found-cell k p (leaf j q) i e = both (eqb j k) (λ t. ap (λ (n : ℕ). 2 ^ 48 + n) (eqb-true j k t)) (λ f. absurd (no_payload p (rw f at e)))
 found-cell k p (sub h g) i e = absurd i
 
 pub same_keys : (h o : Handle) (m : Mem) (t : Head) (g : Forest) (s : Head) (f : Forest) → Good h m t g → Good o m s f

@@ -7,7 +7,7 @@ use native.Mathlib.Omega.{arith}
 use Prim.Native.Nat.{ℕ, ◌<◌, ◌≤◌}
 use lib.Dec.{eqb, ltb}
 use lib.ListN.{length, get_or}
-use borrow.Author.Tests.{lt_ltb, le-ltb, ltb-true, ltb-false, ne_eqb, eqb-false}
+use borrow.Author.Tests.{lt-ltb, le-ltb, ltb-true, ltb-false, ne_eqb, eqb-false}
 use Rattle.build.specs.Building.{Out, out, build}
 use Rattle.build.specs.Releasing.{release}
 use Rattle.counters.specs.Counters.{due_in}
@@ -148,7 +148,7 @@ module _ (h : Handle) (m : Mem) (k p j q : ℕ) (fine : Fine h.records h.slots m
       upper l = let le : k ≤ j = omega arith in rw (le-ltb j k le, ne_eqb j k ne)
 
       lower : j ≤ k → build longest_path (j ∷ k ∷ []) (q ∷ p ∷ []) m ≡ build longest_path (keys_of two) (payloads_of two) m
-      lower l = rw (lt_ltb j k (below l))
+      lower l = rw (lt-ltb j k (below l))
         where
           below : j ≤ k → j < k
           below l = ⊎_elim (λ x. absurd (ne (omega arith))) (λ x. x) (le_or_lt k j)
@@ -332,7 +332,7 @@ pub insert_answers : InsertAnswers ours
 unfolding insert_of
 insert_answers h m t g d k p key z fits =
     let o = on h m t g d k key in
-    rw (and_true d.fits fits, lt_ltb k key_bound key, walk_is h m t g d k key)
+    rw (and_true d.fits fits, lt-ltb k key_bound key, walk_is h m t g d k key)
     (subst⁻¹ (λ (x : Branch). InsertLeaves h m g k p (insert_end_of h k p m z (path_b k (sub t g)) (end_to (place_of o.first o.rest) o.end o.is_end)) (insert_end h (sub t g) m.used k p x)) (way_end h.records h.slots m k t g o)
     (subst⁻¹ (λ (x : List ℕ). InsertLeaves h m g k p (insert_end_of h k p m z x (end_to (place_of o.first o.rest) o.end o.is_end)) (insert_end h (sub t g) m.used k p o.end)) (way_path h.records h.slots m k t g o)
     (end_leaves h m t g d k p key z o.end o.is_end o.first o.rest o.eq o.follows o.kept (member_is h m t g d k key))))

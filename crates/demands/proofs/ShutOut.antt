@@ -7,7 +7,7 @@ use native.Mathlib.Omega.{arith}
 use Prim.Native.Nat.{ℕ, ◌+◌, ◌<◌}
 use lib.Dec.{ltb, eqb}
 use lib.ListN.{length, replicate}
-use borrow.Author.Tests.{eq_eqb, ne_eqb, ltb-true}
+use borrow.Author.Tests.{eq-eqb, ne_eqb, ltb-true}
 use Rattle.build.specs.Building.{payloads_to}
 use Rattle.counters.specs.Counters.{one_more, raised_if, is_due}
 use Rattle.insert.specs.Inserting.{scratch_fits, not_due}
@@ -197,11 +197,11 @@ visits_unread x d r =
 
 -- the map: a key that was inserted is found
 look-inserted : (k p : ℕ) (l : Map) → lookup k (insert k p l) ≡ is p
-look-inserted k p [] = rw (eq_eqb k k refl)
+look-inserted k p [] = rw (eq-eqb k k refl)
 look-inserted k p (y ∷ l) =
     both (ltb y.0 k)
     (λ t. let u = ltb-true y.0 k t in rw (t, ne_eqb y.0 k (λ e. omega arith)) (look-inserted k p l))
-    (λ f. both (eqb y.0 k) (λ t. rw (f, t, eq_eqb k k refl)) (λ n. rw (f, n, eq_eqb k k refl)))
+    (λ f. both (eqb y.0 k) (λ t. rw (f, t, eq-eqb k k refl)) (λ n. rw (f, n, eq-eqb k k refl)))
 
 -- one call more
 after_more : (x : Store) (s : State) (asks : List Ask) (a : Ask) → after_all x s (asks ++ a ∷ []) ≡ after x (after_all x s asks) a
@@ -227,7 +227,7 @@ module _ (x : Store) (d : Demand3 x) (q : Calls x) (k : ℕ) (small : k < key_bo
     pretends_once : member k (comes_to x q).map ≡ false → PretendsOnce x (comes_to x q) k p z → ⊥
     unfolding after tree tree'
     pretends_once absent r =
-        let map : when_done (x.insert (comes_to x q).handle k p (comes_to x q).memory z).answer (insert k p (comes_to x q).map) (comes_to x q).map ≡ insert k p (comes_to x q).map = rw (eq_eqb _ 0 r.reports) in
+        let map : when_done (x.insert (comes_to x q).handle k p (comes_to x q).memory z).answer (insert k p (comes_to x q).map) (comes_to x q).map ≡ insert k p (comes_to x q).map = rw (eq-eqb _ 0 r.reports) in
         let found : lookup k (flat_f tree'.slots) ≡ is p = ap (lookup k) (tree'.stands.reads ∙ map) ∙ look-inserted k p (comes_to x q).map in
         let good : Good (x.insert (comes_to x q).handle k p (comes_to x q).memory z).handle (comes_to x q).memory tree'.head tree'.slots =
         subst (λ (m : Mem). Good (x.insert (comes_to x q).handle k p (comes_to x q).memory z).handle m tree'.head tree'.slots) r.memory tree'.stands.good in

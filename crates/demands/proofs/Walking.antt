@@ -7,7 +7,7 @@ use native.Mathlib.Nat.{add-zero}
 use native.Mathlib.Omega.{arith}
 use Prim.Native.Nat.{ℕ, zero, suc, ◌+◌, ◌*◌, ◌-◌, ◌<◌, ◌≤◌, ◌/◌, ◌%◌, ◌^◌}
 use lib.ListN.{length, get_or}
-use borrow.Author.Tests.{eq_eqb, lt_ltb, le-ltb}
+use borrow.Author.Tests.{eq-eqb, lt-ltb, le-ltb}
 use Rattle.marks.specs.Used.{used_at}
 use Rattle.model.specs.Slots.{slot_of}
 use Rattle.pool.proofs.Nodes.{GoodNode, good-reads}
@@ -48,14 +48,14 @@ holds-all R S m t g x h w = g.image x w
 -- one word seen
 pub view-node : (R : ℕ) (m : Mem) (r i : ℕ) → r < R → i < 8 → view R m r (in_node i) ≡ get_or m.nodes (r * 8 + i) 0
 unfolding view
-view-node R m r i h g = rw (lt_ltb r R h, lt_ltb i 8 g)
+view-node R m r i h g = rw (lt-ltb r R h, lt-ltb i 8 g)
 
 pub view-slot : (R : ℕ) (m : Mem) (q i : ℕ) → i < 2 → view R m (R + q) (in_slot i) ≡ get_or m.slots (q * 2 + i) 0
 unfolding view
 view-slot R m q i g =
     let h : R ≤ R + q = omega arith in
     let e : R + q - R ≡ q = omega arith in
-    rw (le-ltb (R + q) R h, e, lt_ltb i 2 g)
+    rw (le-ltb (R + q) R h, e, lt-ltb i 2 g)
 
 pub node-past : (R : ℕ) (m : Mem) (x i : ℕ) → 8 ≤ i → view R m x (in_node i) ≡ 0
 unfolding view
@@ -67,7 +67,7 @@ slot-past R m x i h = rw (le-ltb i 2 h)
 
 pub view-bit : (R : ℕ) (m : Mem) (x : ℕ) → view R m x bit ≡ 1 → used_at m.used x ≡ true
 unfolding view used_at
-view-bit R m x e = eq_eqb _ _ e
+view-bit R m x e = eq-eqb _ _ e
 
 -- the node of a frame
 abbrev pub node_of : Head → ℕ → Node
@@ -93,7 +93,7 @@ branch-says R S h l j null o e f = refl
 branch-says R S h l j (leaf d p) o e f =
     let q = data-kind d o in
     let s : slot_of (model_in h.lo h.w l) d ≡ j = e.0 in
-    rw (q.0, q.1, s) (simp eq_eqb)
+    rw (q.0, q.1, s) (simp eq-eqb)
 branch-says R S h l j (sub t g) o e f =
     let q = child_kind t.at (omega (arith, o.0.inside)) in
     rw (q.0, q.1)

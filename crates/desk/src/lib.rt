@@ -1,5 +1,7 @@
 // The desk library: every public call for a C or Rust host. Thin functions over the proved calls; include/soorqabiye_desk.h is
 // their C side.
+#![tactic(auto)]
+
 ghost use Rattle.std.specs.Prelude.{◌≡◌};
 ghost use Rattle.delete.specs.Deleting.{delete_of};
 ghost use Rattle.insert.specs.Inserting.{insert_of};
@@ -17,7 +19,7 @@ use sounding::Unpacked;
 use store::{Changed, Changing, Handle, Listed, Loaded, Looked};
 
 #[repr(C)]
-#[derive(Drop)]
+#[derive(Clone, Copy)]
 pub struct SoundingAnswer {
     pub number: u64,
     pub depth: i64,
@@ -25,7 +27,7 @@ pub struct SoundingAnswer {
 }
 
 #[repr(C)]
-#[derive(Drop)]
+#[derive(Clone, Copy)]
 pub struct LoadedAnswer {
     pub number: u64,
     pub place: usize,
@@ -33,7 +35,7 @@ pub struct LoadedAnswer {
 }
 
 #[repr(C)]
-#[derive(Drop)]
+#[derive(Clone, Copy)]
 pub struct LookedAnswer {
     pub number: u64,
     pub payload: u64,
@@ -41,7 +43,7 @@ pub struct LookedAnswer {
 }
 
 #[repr(C)]
-#[derive(Drop)]
+#[derive(Clone, Copy)]
 pub struct ListedAnswer {
     pub number: u64,
     pub count: usize,
@@ -49,7 +51,7 @@ pub struct ListedAnswer {
 }
 
 #[repr(C)]
-#[derive(Drop)]
+#[derive(Clone, Copy)]
 pub struct ChangedAnswer {
     pub number: u64,
     pub visits: usize,
@@ -57,7 +59,7 @@ pub struct ChangedAnswer {
 }
 
 #[repr(C)]
-#[derive(Drop)]
+#[derive(Clone, Copy)]
 pub struct InsertedAnswer {
     pub number: u64,
     pub conflict: usize,

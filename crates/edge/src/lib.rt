@@ -1,5 +1,7 @@
 // The C edge: key packing, slot choice and model choice for the engine's host side, on numbers and byte slices. Three thin
 // functions over the proved leaves; include/soorqabiye.h is their C side.
+#![tactic(auto)]
+
 ghost use Rattle.std.specs.Prelude.{◌≡◌};
 ghost use Rattle.sounding.specs.Studio.{pack_of};
 ghost use Rattle.model.specs.Choice.{model_choice};
@@ -10,21 +12,21 @@ use model::{Chosen, Model, Slotted};
 use sounding::Packed;
 
 #[repr(C)]
-#[derive(Drop)]
+#[derive(Clone, Copy)]
 pub struct KeyAnswer {
     pub number: u64,
     pub key: u64,
 }
 
 #[repr(C)]
-#[derive(Drop)]
+#[derive(Clone, Copy)]
 pub struct SlotAnswer {
     pub number: u64,
     pub slot: u64,
 }
 
 #[repr(C)]
-#[derive(Drop)]
+#[derive(Clone, Copy)]
 pub struct ModelAnswer {
     pub number: u64,
     pub place: u64,

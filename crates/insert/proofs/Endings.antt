@@ -5,7 +5,7 @@ use mathlib.Core.List.{List}
 use mathlib.Core.Path.{◌≡◌, sym, ap, subst, ◌∙◌}
 use Prim.Native.Nat.{ℕ, ◌<◌, ◌≤◌}
 use native.Mathlib.Omega.{arith}
-use borrow.Author.Tests.{eq_eqb, ne_eqb, lt_ltb, le-ltb}
+use borrow.Author.Tests.{eq-eqb, ne_eqb, lt-ltb, le-ltb}
 use lib.ListN.{length, take}
 use Rattle.counters.proofs.Traces.{traced_on_path}
 use Rattle.insert.proofs.Leaves.{scratch_given}
@@ -115,7 +115,7 @@ module _ (h : Handle) (k p : ℕ) (m : Mem) (s : Scratch) where
         -- the walk's end decides
         at_end : insert_end h k p m s (take t.path.len t.path.nodes) t.end ≡ insert_of h k p m s
         unfolding insert_of
-        at_end = rw (fits, long, lt_ltb k key_bound low, traced_whole m h.root k t is, traced_end m h.root k t is)
+        at_end = rw (fits, long, lt-ltb k key_bound low, traced_whole m h.root k t is, traced_end m h.root k t is)
 
         pub insert-damage : (r : Inserting) (c : ℕ) → r ≡ record { answer = Damage; handle = h } → t.end ≡ EndDamage c → leaves r m s ≡ insert_of h k p m s
         unfolding insert_end inserted
@@ -128,12 +128,12 @@ module _ (h : Handle) (k p : ℕ) (m : Mem) (s : Scratch) where
 
           pub insert-null : (x : Insert) → h.count < h.capacity → x ≡ settle_of h (fresh k p q false 0 (take t.path.len t.path.nodes)) m s → x ≡ insert_of h k p m s
           unfolding insert_end unless_full
-          insert-null x g e = e ∙ rw (f, lt_ltb h.count h.capacity g) at at_end
+          insert-null x g e = e ∙ rw (f, lt-ltb h.count h.capacity g) at at_end
 
         module _ (q j : ℕ) (f : t.end ≡ Key q j) where
           pub insert-held : (r : Inserting) → r ≡ record { answer = Held; handle = h } → j ≡ k → leaves r m s ≡ insert_of h k p m s
           unfolding insert_end inserted
-          insert-held r e g = rw e (rw (f, eq_eqb j k g) at at_end)
+          insert-held r e g = rw e (rw (f, eq-eqb j k g) at at_end)
 
           module _ (other : j ≡ k → ⊥) where
             pub insert-full : (r : Inserting) → r ≡ record { answer = Full; handle = h } → h.capacity ≤ h.count → leaves r m s ≡ insert_of h k p m s
@@ -146,8 +146,8 @@ module _ (h : Handle) (k p : ℕ) (m : Mem) (s : Scratch) where
 
               pub insert-whole : (x : Insert) → longest_path ≤ t.path.len → x ≡ whole_of h k p m s → x ≡ insert_of h k p m s
               unfolding insert_end unless_full
-              insert-whole x g e = e ∙ rw (f, ne_eqb j k other, lt_ltb h.count h.capacity space, le-ltb (length (take t.path.len t.path.nodes)) longest_path (omega (arith, length_is))) at at_end
+              insert-whole x g e = e ∙ rw (f, ne_eqb j k other, lt-ltb h.count h.capacity space, le-ltb (length (take t.path.len t.path.nodes)) longest_path (omega (arith, length_is))) at at_end
 
               pub insert-conflict : (x : Insert) → t.path.len < longest_path → x ≡ settle_of h (fresh k p q true j (take t.path.len t.path.nodes)) m s → x ≡ insert_of h k p m s
               unfolding insert_end unless_full
-              insert-conflict x g e = e ∙ rw (f, ne_eqb j k other, lt_ltb h.count h.capacity space, lt_ltb (length (take t.path.len t.path.nodes)) longest_path (omega (arith, length_is))) at at_end
+              insert-conflict x g e = e ∙ rw (f, ne_eqb j k other, lt-ltb h.count h.capacity space, lt-ltb (length (take t.path.len t.path.nodes)) longest_path (omega (arith, length_is))) at at_end

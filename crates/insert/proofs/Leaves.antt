@@ -5,7 +5,7 @@ use mathlib.Core.List.{List}
 use mathlib.Core.Path.{◌≡◌, refl, sym, ap, ◌∙◌}
 use Prim.Native.Nat.{ℕ, zero, suc, ◌+◌, ◌-◌, ◌<◌, ◌≤◌}
 use native.Mathlib.Omega.{arith}
-use borrow.Author.Tests.{le-leb, lt-leb, leb-true, eq_eqb, ne_eqb, eqb_true, lt_ltb, le-ltb}
+use borrow.Author.Tests.{le-leb, lt-leb, leb-true, eq-eqb, ne_eqb, eqb-true, lt-ltb, le-ltb}
 use lib.Dec.{leb, eqb, ltb}
 use lib.ListN.{length, get_or, take}
 use lib.Seq.{get_or-take, length-take-le}
@@ -39,14 +39,14 @@ module _ (capacity : ℕ) (ks ps qs : List ℕ) where
 
     pub scratch_last : length ps ≡ length ks → eqb (length qs) (length ks) ≡ scratch_fits capacity (scratch ks ps qs)
     unfolding scratch_fits
-    scratch_last f = rw (le-leb capacity (length ks) h, eq_eqb (length ps) (length ks) f)
+    scratch_last f = rw (le-leb capacity (length ks) h, eq-eqb (length ps) (length ks) f)
 
   pub scratch_given : scratch_fits capacity (scratch ks ps qs) ≡ true → (capacity ≤ length ks) × (length ps ≡ length ks) × (length qs ≡ length ks)
   unfolding scratch_fits
   scratch_given e =
       let a = and_both (leb capacity (length ks)) _ e in
       let c = and_both (eqb (length ps) (length ks)) _ a.1 in
-      (leb-true capacity (length ks) a.0, eqb_true (length ps) (length ks) c.0, eqb_true (length qs) (length ks) c.1)
+      (leb-true capacity (length ks) a.0, eqb-true (length ps) (length ks) c.0, eqb-true (length qs) (length ks) c.1)
 
 -- the path as a list
 module _ (path : Path) (s : Sized path) where
@@ -63,7 +63,7 @@ module _ (path : Path) (s : Sized path) where
 
     pub due_sound : (b : Bool) → i < path.len → b ≡ sound_below capacity k i (get_or path.nodes i 0) m → b ≡ sound_due capacity k (take path.len path.nodes) i m
     unfolding sound_due
-    due_sound b h e = rw (lt_ltb i (length (take path.len path.nodes)) (omega (arith, path-length)), path-place i h) e
+    due_sound b h e = rw (lt-ltb i (length (take path.len path.nodes)) (omega (arith, path-length)), path-place i h) e
 
   -- the slot above
   module _ (m : Mem) (g : GoodPath m path) (k i : ℕ) where

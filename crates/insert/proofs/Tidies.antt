@@ -4,7 +4,7 @@ use mathlib.Core.List.{List}
 use mathlib.Core.Path.{◌≡◌, refl, sym, ap, subst⁻¹, ◌∙◌}
 use Prim.Native.Nat.{ℕ, ◌+◌, ◌^◌, ◌<◌, ◌≤◌}
 use native.Mathlib.Omega.{arith}
-use borrow.Author.Tests.{lt_ltb, le-ltb}
+use borrow.Author.Tests.{lt-ltb, le-ltb}
 use lib.Dec.{leb, ltb}
 use lib.ListN.{length, get_or, take}
 use Rattle.build.proofs.Kept.{build-within}
@@ -102,7 +102,7 @@ module _ (h : Handle) (k p q : ℕ) (c : Bool) (j : ℕ) (path : Path) (z : Size
   module _ (lt : i < path.len) (b : Built) (m' : Mem) (s' : Scratch) (r : rebuilt (out b m') s' ≡ rebuild_of h.capacity k p i (get_or path.nodes i 0) m s) where
     tidy_is : tidy_ends h (fresh k p q c j (take path.len path.nodes)) i above d b m' s' ≡ tidy_of h (fresh k p q c j (take path.len path.nodes)) i above d m m s
     unfolding tidy_of rebuild_of
-    tidy_is = rw (lt_ltb i (length (take path.len path.nodes)) (omega (arith, path-length path z)), path-place path z i lt, ← r)
+    tidy_is = rw (lt-ltb i (length (take path.len path.nodes)) (omega (arith, path-length path z)), path-place path z i lt, ← r)
 
     pub tidy-done : (t : ℕ) → b ≡ At t → x ≡ replaced h (fresh k p q c j (take path.len path.nodes)) i above d t m' s'
         → x ≡ tidy_of h (fresh k p q c j (take path.len path.nodes)) i above d m m s
@@ -136,7 +136,7 @@ tidy_before h f i above d m m' s sound g =
 pub node-sound : (capacity k : ℕ) (path : Path) → Sized path → (i : ℕ) (m : Mem) → i < path.len → sound_due capacity k (take path.len path.nodes) i m ≡ true
     → sound_below capacity k i (get_or path.nodes i 0) m ≡ true
 unfolding sound_due
-node-sound capacity k path z i m lt e = rw (lt_ltb i (length (take path.len path.nodes)) (omega (arith, path-length path z)), path-place path z i lt) at e
+node-sound capacity k path z i m lt e = rw (lt-ltb i (length (take path.len path.nodes)) (omega (arith, path-length path z)), path-place path z i lt) at e
 
 -- the two-key node leaves it sound
 paired_grows : (c : Bool) (a p b q : ℕ) (m : Mem) (x : Built) (m' : Mem) → out x m' ≡ pair_if c a p b q m → Grows m m'

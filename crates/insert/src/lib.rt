@@ -1,4 +1,6 @@
 // Insert: a key put in with its payload, and the due node nearest the root tidied.
+#![tactic(auto)]
+
 ghost use Rattle.std.specs.Prelude.{true, ◌≡◌, ◌^◌, ◌<◌, ◌≤◌, take};
 ghost use Rattle.counters.specs.Counters.{OnPath};
 ghost use Rattle.insert.specs.declared.Inserted.TheVariants as Inserted;
@@ -16,7 +18,7 @@ use store::Handle;
 use walk::{End, Path};
 
 // What insert answers: conflict (0 or 1) and tidying, or a refusal.
-#[derive(Drop)]
+#[derive(Clone, Copy)]
 pub enum Inserted {
     Done(usize, usize),
     WrongSizes,
@@ -38,7 +40,7 @@ impl Inserted {
 }
 
 // What an insert gives: its answer and the next handle.
-#[derive(Drop)]
+#[derive(Clone, Copy)]
 pub struct Inserting {
     pub answer: Inserted,
     pub handle: Handle,

@@ -1,11 +1,11 @@
 -- Products and quotients that rise, and bounds on them: what the slot formula needs. Assumes nothing.
 use mathlib.Core.Path.{◌≡◌}
 use Prim.Native.Nat.{ℕ, ◌+◌, ◌-◌, ◌*◌, ◌/◌, ◌<◌, ◌≤◌}
-use native.Mathlib.Nat.{div-lt_iff_lt-mul, le-div_iff_mul-le, div-mul-le_self, le_trans, mul_comm, mul_le_mul, mul-le-mul_right, mul-lt-mul_of_pos_right}
+use native.Mathlib.Nat.{div-lt_iff_lt-mul, le-div_iff_mul-le, div-mul-le_self, le_trans, mul_comm, mul-le-mul, mul-le-mul_right, mul-lt-mul_of_pos_right}
 use native.Mathlib.Omega.{arith}
 
 pub product_under : {a b : ℕ} (x y : ℕ) → a ≤ x → b ≤ y → a * b ≤ x * y
-product_under x y h k = mul_le_mul h k
+product_under x y h k = mul-le-mul h k
 
 pub quotient_rises : {a b : ℕ} (w : ℕ) → 1 ≤ w → a ≤ b → a / w ≤ b / w
 quotient_rises {a} {b} w pos h = (le-div_iff_mul-le {k = w} {x = a / w} {y = b} pos).1 (le_trans (div-mul-le_self a w) h)

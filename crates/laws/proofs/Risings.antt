@@ -6,7 +6,7 @@ use mathlib.Core.Path.{◌≡◌, refl, sym, ◌∙◌}
 use Prim.Native.Nat.{ℕ, zero, suc, ◌+◌, ◌-◌, ◌<◌, ◌≤◌}
 use native.Mathlib.Numerals.{add-one}
 use native.Mathlib.Omega.{arith}
-use borrow.Author.Tests.{ltb-true, ltb-false, lt_ltb, le-ltb}
+use borrow.Author.Tests.{ltb-true, ltb-false, lt-ltb, le-ltb}
 use lib.Dec.{ltb}
 use lib.ListN.{length, get_or, take, drop, drop_of_length-le}
 use lib.Seq.{drop-cons}
@@ -85,7 +85,7 @@ unfolding fall_from
 rises-fall_from i p [] r = omega arith
 rises-fall_from i p (k ∷ ks) r =
     let ih : fall_from (i + 1) k ks ≡ i + 1 + length ks = rises-fall_from (i + 1) k ks (rises_tail p (k ∷ ks) r) in
-    rw (lt_ltb p k (r 0 1 (omega arith) (omega arith))) (omega arith)
+    rw (lt-ltb p k (r 0 1 (omega arith) (omega arith))) (omega arith)
 
 pub rising_fall : (ks : List ℕ) → Rising ks → first_fall ks ≡ length ks
 unfolding first_fall
@@ -143,7 +143,7 @@ fall_start (k ∷ ks) h = refl
 pub fall_step : (ks : List ℕ) (i : ℕ) → 0 < i → i < length ks → get_or ks (i - 1) 0 < get_or ks i 0
     → fall_from i (get_or ks (i - 1) 0) (drop i ks) ≡ fall_from (i + 1) (get_or ks i 0) (drop (i + 1) ks)
 unfolding fall_from
-fall_step ks i pos h up = rw (drop-cons ks i 0 h, lt_ltb _ _ up, add-one i)
+fall_step ks i pos h up = rw (drop-cons ks i 0 h, lt-ltb _ _ up, add-one i)
 
 pub fall_here : (ks : List ℕ) (i : ℕ) → 0 < i → i < length ks → get_or ks i 0 ≤ get_or ks (i - 1) 0 → fall_from i (get_or ks (i - 1) 0) (drop i ks) ≡ i
 unfolding fall_from

@@ -6,14 +6,14 @@ use Prim.Native.Nat.{ℕ, zero, suc, ◌+◌, ◌*◌, ◌-◌, ◌/◌, ◌%◌
 use native.Mathlib.Omega.{arith}
 use lib.Dec.{ltb}
 use lib.ListN.{length, length-append}
-use borrow.Author.Tests.{lt_ltb, le-ltb}
+use borrow.Author.Tests.{lt-ltb, le-ltb}
 use mathlib.Core.Logic.{◌⊎◌, ⊎_elim}
 use Rattle.laws.proofs.Tests.{le_or_lt}
 use Rattle.lines.specs.Lines.{digit, digits, decimal, spaced, line, numbers, longest_number}
 
 digits-below : (f n : ℕ) → n < 10 → digits (suc f) n ≡ digit n ∷ []
 unfolding digits
-digits-below f n h = rw (lt_ltb n 10 h)
+digits-below f n h = rw (lt-ltb n 10 h)
 
 digits_above : (f n : ℕ) → 10 ≤ n → digits (suc f) n ≡ digits f (n / 10) ++ (digit (n % 10) ∷ [])
 unfolding digits

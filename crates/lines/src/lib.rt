@@ -1,4 +1,6 @@
 // What the session program reads and prints (document 01, "The session program"): kinds and numbers in bytes, decimals and lines.
+#![tactic(auto)]
+
 ghost use Rattle.std.specs.Prelude.{◌≡◌, [], ◌∷◌, ◌+◌, ◌^◌, ◌<◌, ◌≤◌, length, drop};
 ghost use Rattle.laws.specs.Bytes.{little_endian};
 ghost use Rattle.lines.specs.Kinds.{payload_bytes, kind_of};
@@ -6,7 +8,7 @@ ghost use Rattle.lines.specs.Lines.{digit, space, newline, decimal, spaced, line
 
 use laws::Key;
 
-#[derive(Drop)]
+#[derive(Clone, Copy)]
 pub enum Operation {
     Insert,
     Delete,
@@ -16,7 +18,7 @@ pub enum Operation {
 }
 
 // What a kind byte says: the length of the body and the operation, or nothing known.
-#[derive(Drop)]
+#[derive(Clone, Copy)]
 pub enum Kind {
     Known(usize, Operation),
     Unknown,
@@ -27,7 +29,7 @@ impl Kind {
 
     // Nobody calls it: its contract says that the constant is that of the definitions.
     pub fn limits()
-        ensures* { do ⌜ (← (⟦Kind::PAYLOAD_BYTES⟧).entry) ≡ payload_bytes ⌝ }
+        ensures { Kind.PAYLOAD_BYTES ≡ payload_bytes }
     {}
 }
 

@@ -1,5 +1,7 @@
 // The listing of a tree: the elements with u <= key <= v that a reading meets, in key order, read twice. The first reading finds damage
 // and how many fit, and writes nothing; the second writes just so many.
+#![tactic(auto)]
+
 ghost use Rattle.std.specs.Prelude.{◌&&◌, map, ◌≡◌, ℕ, ◌+◌, ◌^◌, ◌<◌, ◌≤◌, leb, length, get_or};
 ghost use Rattle.std.proofs.lemmas.List.Edits.{sets};
 ghost use Rattle.listing.specs.Listing.{listing, left, Lands, count_from};
@@ -14,7 +16,7 @@ use pool::Node;
 use walk::{Item, Next, Path, Rules, Span};
 
 // What the first reading finds: how many fit and whether more remain (0 or 1), or damage.
-#[derive(Drop)]
+#[derive(Clone, Copy)]
 pub enum Counted {
     Done(usize, usize),
     Damage,

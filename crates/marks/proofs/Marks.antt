@@ -7,7 +7,7 @@ use mathlib.Core.Path.{◌≡◌, sym, ap, ◌∙◌}
 use Prim.Native.Nat.{ℕ, ◌+◌, ◌*◌, ◌-◌, ◌<◌, ◌≤◌, ◌/◌, ◌%◌, ◌^◌}
 use native.Mathlib.Nat.{zero-div}
 use native.Mathlib.Omega.{arith}
-use borrow.Author.Tests.{eq_eqb, ne_eqb, eqb_true, eqb-false}
+use borrow.Author.Tests.{eq-eqb, ne_eqb, eqb-true, eqb-false}
 use lib.Bits.{bit_or}
 use lib.Dec.{eqb}
 use lib.ListN.{length, get_or, set, length-set, get_or-eq_default}
@@ -25,7 +25,7 @@ bit_at u p = get_or u (p / 64) 0 / 2 ^ (p % 64) % 2
 
 pub used-one : (u : List ℕ) (p : ℕ) → used_at u p ≡ true → bit_at u p ≡ 1
 unfolding used_at
-used-one u p e = eqb_true _ _ e
+used-one u p e = eqb-true _ _ e
 
 pub unused_zero : (u : List ℕ) (p : ℕ) → used_at u p ≡ false → bit_at u p ≡ 0
 unfolding used_at
@@ -33,7 +33,7 @@ unused_zero u p e = let n : bit_at u p ≡ 1 → ⊥ = eqb-false (bit_at u p) 1 
 
 pub one-used : (u : List ℕ) (p : ℕ) → bit_at u p ≡ 1 → used_at u p ≡ true
 unfolding used_at
-one-used u p e = eq_eqb _ _ e
+one-used u p e = eq-eqb _ _ e
 
 pub zero_unused : (u : List ℕ) (p : ℕ) → bit_at u p ≡ 0 → used_at u p ≡ false
 unfolding used_at
@@ -69,7 +69,7 @@ store_other u p q y n f = ⊎_elim out within (le_or_lt (length u) (p / 64))
     within h =
         both (eqb (q / 64) (p / 64))
         (λ e.
-        let d : q / 64 ≡ p / 64 = eqb_true _ _ e in
+        let d : q / 64 ≡ p / 64 = eqb-true _ _ e in
         same-bit-used (set u (p / 64) y) u q (rw (d, get_or-set_same u (p / 64) y 0) (f (q % 64) (λ m. n (omega arith)))))
         (λ e. same-bit-used (set u (p / 64) y) u q (rw (get_or-set_other u (p / 64) (q / 64) y 0 (eqb-false _ _ e))))
 
@@ -77,7 +77,7 @@ pub store_words : (u : List ℕ) (i y : ℕ) → Words u → y < 2 ^ 64 → Word
 store_words u i y w h j =
     both (eqb j i)
     (λ e.
-    let d : j ≡ i = eqb_true _ _ e in
+    let d : j ≡ i = eqb-true _ _ e in
     ⊎_elim (λ o. rw (set_out u i y o) (w j)) (λ l. rw (d, get_or-set_same u i y 0 l) h) (le_or_lt (length u) i))
     (λ e. rw (get_or-set_other u i j y 0 (eqb-false _ _ e)) (w j))
 
@@ -142,7 +142,7 @@ clear-mark u p e w =
     w
     (λ q.
     both (eqb q p)
-    (λ t. let d : q ≡ p = eqb_true _ _ t in rw d (clear-same (mark_at u p) p ∙ sym e))
+    (λ t. let d : q ≡ p = eqb-true _ _ t in rw d (clear-same (mark_at u p) p ∙ sym e))
     (λ t. clear-other (mark_at u p) p q (eqb-false _ _ t) ∙ mark-other u p q (eqb-false _ _ t)))
 
 -- with an or, whether the place was used or not

@@ -8,7 +8,7 @@ use mathlib.Core.Path.{◌≡◌, refl, sym, subst, ◌∙◌}
 use Prim.Native.Nat.{ℕ, zero, suc, ◌+◌, ◌-◌, ◌<◌, ◌≤◌, ◌/◌, ◌%◌, ◌^◌}
 use native.Mathlib.Nat.{zero-div, add-zero}
 use native.Mathlib.Omega.{arith}
-use borrow.Author.Tests.{eqb_true, eqb-false}
+use borrow.Author.Tests.{eqb-true, eqb-false}
 use lib.Dec.{eqb}
 use lib.ListN.{length, get_or, set, length-set}
 use lib.Seq.{get_or-set_same, get_or-set_other}
@@ -72,7 +72,7 @@ module _ {step : List ℕ → ℕ → List ℕ} {b : Bool} (S : Step step b) whe
   over_in u p (suc n) q a l h =
       both (eqb q p)
       (λ t.
-      let d : q ≡ p = eqb_true _ _ t in
+      let d : q ≡ p = eqb-true _ _ t in
       over_out (step u p) (p + 1) n q (inl (omega arith)) ∙ rw d (S.same u p (omega arith)))
       (λ t.
       let d : q ≡ p → ⊥ = eqb-false _ _ t in
@@ -98,7 +98,7 @@ module _ {step : List ℕ → ℕ → List ℕ} {b : Bool} (S : Step step b) whe
       (λ q.
       both (eqb (q / 64) (p / 64))
       (λ t.
-      let d : q / 64 ≡ p / 64 = eqb_true _ _ t in
+      let d : q / 64 ≡ p / 64 = eqb-true _ _ t in
       over_in u p 64 q (omega arith) (omega arith) (omega arith) ∙ sym (bits (set u (p / 64) y) q (rw (d, get_or-set_same u (p / 64) y 0 h))))
       (λ t.
       let d : q / 64 ≡ p / 64 → ⊥ = eqb-false _ _ t in
@@ -147,7 +147,7 @@ module _ (u : List ℕ) (p n : ℕ) where
 -- what holds at a place, and after it, holds from it on
 pub here_or_after : (P : ℕ → Type 0) {a j : ℕ} → a ≤ j → P a → (a < j → P j) → P j
 here_or_after P {a} {j} h x f =
-    both (eqb a j) (λ t. subst P (eqb_true a j t) x) (λ t. let d : a ≡ j → ⊥ = eqb-false a j t in f (omega arith))
+    both (eqb a j) (λ t. subst P (eqb-true a j t) x) (λ t. let d : a ≡ j → ⊥ = eqb-false a j t in f (omega arith))
 
 -- a run is unused just when each of its places is
 pub free_run_at : (u : List ℕ) (p n : ℕ) → free_run u p n ≡ true → (q : ℕ) → p ≤ q → q < p + n → used_at u q ≡ false

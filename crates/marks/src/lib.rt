@@ -1,5 +1,7 @@
 // The map of used places: test, mark, clear, and the search for the lowest unused place or run. A place is a bit, 64 places
 // a word, lowest bit first. Where 64 places from a word's start lie within what is asked, the word is taken at once.
+#![tactic(auto)]
+
 ghost use Rattle.std.specs.Prelude.{◌≡◌, true, ℕ, ◌+◌, ◌*◌, ◌<◌, ◌≤◌, ◌^◌, length};
 ghost use Rattle.marks.specs.Used.{used_at, mark_at, clear_at, mark_run, clear_run, full_run, first_unused, lowest_run};
 
@@ -7,7 +9,7 @@ ghost use Rattle.marks.specs.Used.{used_at, mark_at, clear_at, mark_run, clear_r
 const FULL: u64 = 18446744073709551615;
 
 // the start of a run, counted from the first place searched; or there is none
-#[derive(Drop)]
+#[derive(Clone, Copy)]
 pub enum Run {
     At(usize),
     Nowhere,

@@ -4,7 +4,7 @@ use mathlib.Core.List.{List, [], ◌∷◌}
 use mathlib.Core.Path.{◌≡◌, refl, ap}
 use Prim.Native.Nat.{ℕ, ◌/◌, ◌%◌, ◌<◌, ◌≤◌}
 use native.Mathlib.Omega.{arith}
-use borrow.Author.Tests.{eq_eqb, ne_eqb, lt_ltb, le-ltb, le-leb, lt-leb}
+use borrow.Author.Tests.{eq-eqb, ne_eqb, lt-ltb, le-ltb, le-leb, lt-leb}
 use lib.Dec.{eqb}
 use lib.ListN.{length}
 use Rattle.laws.proofs.Bytes.{AreBytes, length_in, keys_small}
@@ -36,13 +36,13 @@ module _ (bs : List ℕ) where
     unfolding model_choice choice_over
     choice_falls lt =
         let q : first_fall (keys_in bs) < length (keys_in bs) = rw (length_in bs) (omega arith) in
-        rw (eq_eqb (length bs % 6) 0 whole, le-leb (length bs / 6) most_keys few, lt_ltb (first_fall (keys_in bs)) (length (keys_in bs)) q, e)
+        rw (eq-eqb (length bs % 6) 0 whole, le-leb (length bs / 6) most_keys few, lt-ltb (first_fall (keys_in bs)) (length (keys_in bs)) q, e)
 
     pub choice_is : length bs / 6 ≤ f → (c : Choice) → c ≡ choice_of (keys_in bs) → done (chosen_values c) ≡ model_choice bs
     unfolding model_choice choice_over
     choice_is le c r =
         let q : length (keys_in bs) ≤ first_fall (keys_in bs) = rw (length_in bs) (omega arith) in
-        rw (eq_eqb (length bs % 6) 0 whole, le-leb (length bs / 6) most_keys few, le-ltb (first_fall (keys_in bs)) (length (keys_in bs)) q, r)
+        rw (eq-eqb (length bs % 6) 0 whole, le-leb (length bs / 6) most_keys few, le-ltb (first_fall (keys_in bs)) (length (keys_in bs)) q, r)
 
   -- a list of bytes whose keys nowhere fall
   pub choice-rising : AreBytes bs → (f : ℕ) → f ≡ first_fall (keys_in bs) → length bs / 6 ≤ f → Rising (keys_in bs)

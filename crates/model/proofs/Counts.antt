@@ -7,7 +7,7 @@ use Prim.Native.Nat.{ℕ, zero, suc, ◌+◌, ◌-◌, ◌<◌, ◌≤◌}
 use native.Mathlib.Nat.{add-zero}
 use native.Mathlib.Numerals.{add-one}
 use native.Mathlib.Omega.{arith}
-use borrow.Author.Tests.{eq_eqb, ne_eqb, le-leb, lt-leb, leb-true, eqb_true, eqb-false}
+use borrow.Author.Tests.{eq-eqb, ne_eqb, le-leb, lt-leb, leb-true, eqb-true, eqb-false}
 use lib.Dec.{leb, eqb}
 use lib.ListN.{length, get_or, take, drop, set, replicate, take-append-drop, length-set, get_or-replicate}
 use lib.Seq.{take-suc, get_or-set_same, get_or-set_other, take_all}
@@ -47,7 +47,7 @@ module _ (m : Model) (s : ℕ) where
 
     -- one key more, and it goes to s
     pub count-more : slot_of m (get_or ks i 0) ≡ s → count_at m s (take (i + 1) ks) ≡ count_at m s (take i ks) + 1
-    count-more e = next ∙ rw (eq_eqb (slot_of m (get_or ks i 0)) s e)
+    count-more e = next ∙ rw (eq-eqb (slot_of m (get_or ks i 0)) s e)
 
     -- one key more, and it goes elsewhere
     pub count_same : (slot_of m (get_or ks i 0) ≡ s → ⊥) → count_at m s (take (i + 1) ks) ≡ count_at m s (take i ks)
@@ -71,7 +71,7 @@ module _ (m : Model) (t : ℕ) (ks : List ℕ) where
   below_bounds (suc n) e s lt =
       let a = pick_and (leb (count_at m n ks) t) (spread_below m t ks n) e in
       both (eqb s n)
-      (λ q. rw (eqb_true s n q) (leb-true _ _ a.0))
+      (λ q. rw (eqb-true s n q) (leb-true _ _ a.0))
       (λ q. below_bounds n a.1 s (omega (arith, eqb-false s n q)))
 
   -- no slot has more than t: the test passes
@@ -111,13 +111,13 @@ module _ (m : Model) (t : ℕ) (ks : List ℕ) where
       size = length-set counts s (get_or counts s 0 + 1) ∙ c.size;
       each = λ j b.
           both (eqb j s)
-          (λ q. let z : j ≡ s = eqb_true j s q in
+          (λ q. let z : j ≡ s = eqb-true j s q in
           rw (z, get_or-set_same counts s (get_or counts s 0 + 1) 0 (rw c.size lt), c.each s lt) (sym (count-more m s ks i h (sym e))))
           (λ q. let z : j ≡ s → ⊥ = eqb-false j s q in
           rw (get_or-set_other counts s j (get_or counts s 0 + 1) 0 z, c.each j b) (sym (count_same m j ks i h (λ x. z (sym (e ∙ x))))));
       few = λ j b.
           both (eqb j s)
-          (λ q. let z : j ≡ s = eqb_true j s q in
+          (λ q. let z : j ≡ s = eqb-true j s q in
           rw (z, get_or-set_same counts s (get_or counts s 0 + 1) 0 (rw c.size lt)) (omega arith))
           (λ q. let z : j ≡ s → ⊥ = eqb-false j s q in
           rw (get_or-set_other counts s j (get_or counts s 0 + 1) 0 z) (c.few j b));

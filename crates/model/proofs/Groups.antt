@@ -6,7 +6,7 @@ use mathlib.Core.Path.{◌≡◌, refl, ap}
 use Prim.Native.Nat.{ℕ, zero, suc, ◌+◌, ◌-◌, ◌<◌, ◌≤◌}
 use native.Mathlib.Nat.{sub-zero, suc-sub-suc}
 use native.Mathlib.Omega.{arith}
-use borrow.Author.Tests.{eqb_true, lt_ltb, le-ltb, eq_eqb, ne_eqb}
+use borrow.Author.Tests.{eqb-true, lt-ltb, le-ltb, eq-eqb, ne_eqb}
 use lib.Dec.{ltb, eqb}
 use lib.ListN.{length, get_or, take, drop}
 use Rattle.laws.specs.Keys.{Rising}
@@ -38,8 +38,8 @@ before_more m s [] = omega arith
 before_more m s (k ∷ ks) =
     let ih : count_before m (s + 1) ks ≡ count_before m s ks + count_at m s ks = before_more m s ks in
     by_order (slot m k) s
-    (λ h. rw (lt_ltb (slot m k) (s + 1) (omega arith), lt_ltb (slot m k) s h, ne_eqb (slot m k) s (omega arith)) (omega arith))
-    (λ h. rw (lt_ltb (slot m k) (s + 1) (omega arith), le-ltb (slot m k) s (omega arith), eq_eqb (slot m k) s h) (omega arith))
+    (λ h. rw (lt-ltb (slot m k) (s + 1) (omega arith), lt-ltb (slot m k) s h, ne_eqb (slot m k) s (omega arith)) (omega arith))
+    (λ h. rw (lt-ltb (slot m k) (s + 1) (omega arith), le-ltb (slot m k) s (omega arith), eq-eqb (slot m k) s h) (omega arith))
     (λ h. rw (le-ltb (slot m k) (s + 1) (omega arith), le-ltb (slot m k) s (omega arith), ne_eqb (slot m k) s (omega arith)) (omega arith))
 
 pub before_within : (m : Model) (s : ℕ) (ks : List ℕ) → count_before m s ks ≤ length ks
@@ -52,7 +52,7 @@ before_within m s (k ∷ ks) =
 pub before_all : (m : Model) → InRange m → (ks : List ℕ) → count_before m m.l ks ≡ length ks
 unfolding count_before
 before_all m r [] = refl
-before_all m r (k ∷ ks) = rw (lt_ltb (slot m k) m.l (slot_under m r (value_of k))) (ap suc (before_all m r ks))
+before_all m r (k ∷ ks) = rw (lt-ltb (slot m k) m.l (slot_under m r (value_of k))) (ap suc (before_all m r ks))
 
 -- each of the keys goes to slot s
 abbrev AllTo : Model → ℕ → List ℕ → Type 0
@@ -67,7 +67,7 @@ unfolding keys_to
 group_to m s [] = λ i h. absurd (omega arith)
 group_to m s (k ∷ ks) =
     both (eqb (slot m k) s)
-    (λ e. rw e (all_cons m s k (keys_to m s ks) (eqb_true (slot m k) s e) (group_to m s ks)))
+    (λ e. rw e (all_cons m s k (keys_to m s ks) (eqb-true (slot m k) s e) (group_to m s ks)))
     (λ e. rw e (group_to m s ks))
 
 module _ (m : Model) (r : InRange m) where
@@ -94,10 +94,10 @@ module _ (m : Model) (r : InRange m) where
   group_part (k ∷ ks) h s =
       let ih = group_part ks (rising_tail k ks h) s in
       by_order (slot m k) s
-      (λ a. rw (lt_ltb (slot m k) (s + 1) (omega arith), lt_ltb (slot m k) s a, ne_eqb (slot m k) s (omega arith), suc-sub-suc) ih)
+      (λ a. rw (lt-ltb (slot m k) (s + 1) (omega arith), lt-ltb (slot m k) s a, ne_eqb (slot m k) s (omega arith), suc-sub-suc) ih)
       (λ a.
       let z : count_before m s ks ≡ 0 = none_before s k ks h (omega arith) in
-      rw (lt_ltb (slot m k) (s + 1) (omega arith), le-ltb (slot m k) s (omega arith), eq_eqb (slot m k) s a, z, sub-zero)
+      rw (lt-ltb (slot m k) (s + 1) (omega arith), le-ltb (slot m k) s (omega arith), eq-eqb (slot m k) s a, z, sub-zero)
       (ap (λ (g : List ℕ). k ∷ g) (rw (z, sub-zero) at ih)))
       (λ a.
       let z : count_before m s ks ≡ 0 = none_before s k ks h (omega arith) in

@@ -7,7 +7,7 @@ use Prim.Native.Nat.{ℕ, zero, suc, ◌+◌, ◌-◌, ◌*◌, ◌/◌, ◌<◌
 use native.Mathlib.Nat.{le-div_iff_mul-le, div-lt_iff_lt-mul, div-eq_of_lt, zero-mul, div-eq_of_lt-le}
 use native.Mathlib.Numerals.{add-one}
 use native.Mathlib.Omega.{arith}
-use borrow.Author.Tests.{eqb_true, eqb-false, ltb-true, ltb-false, lt_ltb, le-ltb}
+use borrow.Author.Tests.{eqb-true, eqb-false, ltb-true, ltb-false, lt-ltb, le-ltb}
 use lib.Dec.{eqb, ltb}
 use lib.ListN.{length, get_or, take, drop, take-append-drop, length-drop, drop_of_length-le}
 use lib.Seq.{drop-cons, get_or-drop, get_or-take, drop-drop, length-take-le}
@@ -48,7 +48,7 @@ module _ (P : ℕ → Bool) where
       (λ q. let z : i < t = rw q at b in absurd (omega arith))
       (λ q.
       both (eqb i t)
-      (λ z. rw (eqb_true i t z) q)
+      (λ z. rw (eqb-true i t z) q)
       (λ z. least_before (t + 1) f i (omega (arith, eqb-false i t z)) (rw q at b)))
 
 -- two keys that go to different slots
@@ -58,7 +58,7 @@ count-two m s a b d =
     both (eqb (slot_of m a) s)
     (λ p.
     both (eqb (slot_of m b) s)
-    (λ q. absurd (d (eqb_true _ _ p ∙ sym (eqb_true _ _ q))))
+    (λ q. absurd (d (eqb-true _ _ p ∙ sym (eqb-true _ _ q))))
     (λ q. rw (p, q) (omega arith)))
     (λ p.
     both (eqb (slot_of m b) s)
@@ -173,7 +173,7 @@ module _ (ks : List ℕ) (r : Rising ks) (t : ℕ) (h : t + t < length ks) where
       spread_passes m t ks (λ s lt.
       both (eqb s 0)
       (λ e.
-      let z : s ≡ 0 = eqb_true s 0 e in
+      let z : s ≡ 0 = eqb-true s 0 e in
       let a : count_at m s low ≤ length low = count-within m s low in
       let b : count_at m s middle ≡ 0 = middle_none s (λ p. absurd (omega arith)) in
       let c : count_at m s high ≡ 0 = high-none s (λ p. omega arith) in
@@ -183,7 +183,7 @@ module _ (ks : List ℕ) (r : Rising ks) (t : ℕ) (h : t + t < length ks) where
       let a : count_at m s low ≡ 0 = low-none s (omega (arith, z)) in
       both (eqb s (slots_for (length ks) - 1))
       (λ f.
-      let y : s ≡ slots_for (length ks) - 1 = eqb_true s (slots_for (length ks) - 1) f in
+      let y : s ≡ slots_for (length ks) - 1 = eqb-true s (slots_for (length ks) - 1) f in
       let b : count_at m s middle ≡ 0 = middle_none s (λ p. omega arith) in
       let c : count_at m s high ≤ length high = count-within m s high in
       rw (in_three s) (omega (arith, length_high)))
@@ -252,7 +252,7 @@ module _ (ks : List ℕ) (r : Rising ks) (three : 3 ≤ length ks) where
   t-least =
       both (eqb (length ks) 4)
       (λ e.
-      let four : length ks ≡ 4 = eqb_true (length ks) 4 e in
+      let four : length ks ≡ 4 = eqb-true (length ks) 4 e in
       from_one 1 (omega arith) (omega arith) (omega arith) (four_pass ks r four))
       (λ e.
       let h : third (length ks) + third (length ks) < length ks = omega (arith, eqb-false (length ks) 4 e) in
@@ -269,7 +269,7 @@ module _ (ks : List ℕ) (r : Rising ks) (three : 3 ≤ length ks) where
   pub fails_before : (t : ℕ) → t ≤ t_of ks → Pass t ≡ false → t < t_of ks
   fails_before t le e =
       both (eqb t (t_of ks))
-      (λ q. absurd (true_not_false (sym t-least.passes ∙ ap Pass (sym (eqb_true t (t_of ks) q)) ∙ e)))
+      (λ q. absurd (true_not_false (sym t-least.passes ∙ ap Pass (sym (eqb-true t (t_of ks) q)) ∙ e)))
       (λ q. omega (arith, eqb-false t (t_of ks) q))
 
   pub t_model : model_of ks ≡ model_at ks (t_of ks)
@@ -299,7 +299,7 @@ module _ (ks : List ℕ) (r : Rising ks) (three : 3 ≤ length ks) (t : ℕ) (po
 module _ (ks : List ℕ) where
   pub few-t : length ks < 3 → t_of ks ≡ 0
   unfolding t_of
-  few-t h = rw (lt_ltb (length ks) 3 h)
+  few-t h = rw (lt-ltb (length ks) 3 h)
 
   pub few-choice : (m : Model) → 1 ≤ length ks → length ks < 3 → m ≡ model_at ks 0 → record { model = m; t = 0 } ≡ choice_of ks
   unfolding choice_of model_of
@@ -307,7 +307,7 @@ module _ (ks : List ℕ) where
 
   pub empty-choice : (m : Model) → length ks < 1 → m ≡ empty_model → record { model = m; t = 0 } ≡ choice_of ks
   unfolding choice_of model_of
-  empty-choice m h e = rw (e, few-t (omega arith), lt_ltb (length ks) 1 h)
+  empty-choice m h e = rw (e, few-t (omega arith), lt-ltb (length ks) 1 h)
 
 -- L, lo and W of a chosen model are in range
 pub chosen-in_range : (ks : List ℕ) → Rising ks → InRange (model_of ks)

@@ -6,7 +6,7 @@ use mathlib.Core.Path.{◌≡◌, refl, sym, subst, ◌∙◌}
 use Prim.Native.Nat.{ℕ, ◌+◌, ◌-◌, ◌*◌, ◌/◌, ◌<◌, ◌≤◌}
 use native.Mathlib.Nat.{div-eq_of_lt, div-eq_of_lt-le, zero-mul}
 use native.Mathlib.Omega.{arith}
-use borrow.Author.Tests.{eqb_true, eqb-false, le-ltb, ltb-true, ltb-false}
+use borrow.Author.Tests.{eqb-true, eqb-false, le-ltb, ltb-true, ltb-false}
 use lib.Dec.{ltb, eqb}
 use lib.ListN.{length, get_or}
 use Rattle.laws.proofs.Tests.{both}
@@ -89,7 +89,7 @@ module _ (ks : List ℕ) where
         both (ltb (length ks) 3)
         (λ q.
         both (eqb (length ks) 2)
-        (λ e. pair_single (eqb_true (length ks) 2 e) s)
+        (λ e. pair_single (eqb-true (length ks) 2 e) s)
         (λ e. omega (arith, count-within (model_of ks) s ks, ltb-true (length ks) 3 q, eqb-false (length ks) 2 e)))
         (λ q.
         let three : 3 ≤ length ks = ltb-false (length ks) 3 q in

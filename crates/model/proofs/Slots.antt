@@ -7,7 +7,7 @@ use mathlib.Core.Path.{◌≡◌}
 use Prim.Native.Nat.{ℕ, ◌+◌, ◌-◌, ◌*◌, ◌/◌, ◌^◌, ◌<◌, ◌≤◌}
 use native.Mathlib.Nat.{div-le_self}
 use native.Mathlib.Omega.{arith}
-use borrow.Author.Tests.{lt_ltb, le-ltb, le-leb, lt-leb, leb-true}
+use borrow.Author.Tests.{lt-ltb, le-ltb, le-leb, lt-leb, leb-true}
 use lib.Dec.{leb}
 use Rattle.laws.proofs.Quotients.{product_under, share_under, share_rises}
 use Rattle.laws.proofs.Tests.{both, le_or_lt, pick_and}
@@ -31,7 +31,7 @@ module _ (m : Model) where
   -- the formula, case by case
   pub slot-first : (x : ℕ) → x < m.lo → slot_of m x ≡ 0
   unfolding slot_of
-  slot-first x a = simp lt_ltb
+  slot-first x a = simp lt-ltb
 
   pub slot_last : (x : ℕ) → m.lo ≤ x → m.lo + m.w ≤ x → slot_of m x ≡ m.l - 1
   unfolding slot_of
@@ -91,8 +91,8 @@ module _ (k : ℕ) (m : Model) where
   pub choice_model : k < key_bound → (InRange m → ⊥) → refused damage ≡ slot_choice k m
   unfolding slot_choice
   choice_model h unfit =
-      both (in_range m) (λ e. absurd (unfit (passes_range m e))) (λ e. rw (lt_ltb k key_bound h, e))
+      both (in_range m) (λ e. absurd (unfit (passes_range m e))) (λ e. rw (lt-ltb k key_bound h, e))
 
   pub choice-slot : (s : ℕ) → k < key_bound → InRange m → s ≡ slot_of m k → done (s ∷ []) ≡ slot_choice k m
   unfolding slot_choice
-  choice-slot s h r e = rw (lt_ltb k key_bound h, range_passes m r, e)
+  choice-slot s h r e = rw (lt-ltb k key_bound h, range_passes m r, e)

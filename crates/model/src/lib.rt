@@ -1,4 +1,6 @@
 // From key to slot: the slot of a key under a model, and the choice of a node's model over rising keys.
+#![tactic(auto)]
+
 ghost use Rattle.std.specs.Prelude.{◌≡◌, ℕ, ◌+◌, ◌-◌, ◌*◌, ◌<◌, ◌≤◌, length};
 ghost use Rattle.laws.specs.Keys.{Rising};
 ghost use Rattle.model.specs.Slots.{InRange, least_slots, most_slots, value_bound, slot_of, slot_choice, slotted};
@@ -9,7 +11,7 @@ use laws::Key;
 pub mod bytes;
 
 // A node's model: keys from lo to lo + w - 1 spread over the slots 1 to l - 2.
-#[derive(Drop)]
+#[derive(Clone, Copy)]
 pub struct Model {
     pub lo: u64,
     pub w: u64,
@@ -30,8 +32,11 @@ impl Model {
 
     // Nobody calls it: its contract says that the constants are those of the definitions.
     pub fn limits()
-        ensures* fact { do ⌜ ((← (⟦Model::LEAST_SLOTS⟧).entry) ≡ least_slots) × ((← (⟦Model::MOST_SLOTS⟧).entry) ≡ most_slots) × ((← (⟦Model::EMPTY_SLOTS⟧).entry) ≡ empty_slots) ⌝ }
-        ensures* fact_2 { do ⌜ ((← (⟦Model::VALUE_BOUND⟧).entry) ≡ value_bound) × ((← (⟦Model::MOST_KEYS⟧).entry) ≡ most_keys) ⌝ }
+        ensures least_slots { Model.LEAST_SLOTS ≡ least_slots }
+        ensures most_slots { Model.MOST_SLOTS ≡ most_slots }
+        ensures empty_slots { Model.EMPTY_SLOTS ≡ empty_slots }
+        ensures value_bound { Model.VALUE_BOUND ≡ value_bound }
+        ensures most_keys { Model.MOST_KEYS ≡ most_keys }
     {}
 
     pub fn new(lo: u64, w: u64, l: u64) -> Self
@@ -42,7 +47,7 @@ impl Model {
 }
 
 // What slot choice answers.
-#[derive(Drop)]
+#[derive(Clone, Copy)]
 pub enum Slotted {
     At(u64),
     KeyOutOfRange,
@@ -89,14 +94,14 @@ pub fn slot_choice(key: u64, m: Model) -> Slotted
 }
 
 // A chosen model, with how many keys each of its ends holds.
-#[derive(Drop)]
+#[derive(Clone, Copy)]
 pub struct Choice {
     pub model: Model,
     pub t: u64,
 }
 
 // What model choice answers.
-#[derive(Drop)]
+#[derive(Clone, Copy)]
 pub enum Chosen {
     Is(Choice),
     NotRising(u64),

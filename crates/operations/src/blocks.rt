@@ -11,7 +11,7 @@ use lines::Kind;
 use store::Handle;
 
 // Why a block was left: its operations are used up, what is printed has to be written out first, or the session has ended.
-#[derive(Drop)]
+#[derive(Clone, Copy)]
 pub enum Pause {
     Input,
     Output,
@@ -19,7 +19,7 @@ pub enum Pause {
 }
 
 // What a block leaves: the next handle, the bytes taken and printed, and why it was left.
-#[derive(Drop)]
+#[derive(Clone, Copy)]
 pub struct Ran {
     pub handle: Handle,
     pub taken: usize,

@@ -1,4 +1,6 @@
 // One operation of a session, and a block of them: read, done and printed (document 01, "The session program").
+#![tactic(auto)]
+
 ghost use Rattle.std.specs.Prelude.{◌≡◌, ◌+◌, ◌*◌, ◌≤◌, length};
 ghost use Rattle.delete.specs.Deleting.{delete_of};
 ghost use Rattle.lines.specs.Kinds.{body_length};
@@ -20,7 +22,7 @@ use store::{Changed, Handle, Listed, Looked};
 pub mod blocks;
 
 // What an operation leaves: the next handle, and the place past what was printed.
-#[derive(Drop)]
+#[derive(Clone, Copy)]
 pub struct Next {
     pub handle: Handle,
     pub at: usize,
@@ -37,7 +39,9 @@ impl Next {
 
     // Nobody calls it: its contract says that the constants are those of the definitions.
     pub fn limits()
-        ensures* { do ⌜ ((← (⟦Next::LONGEST_LIST⟧).entry) ≡ longest_list) × ((← (⟦Next::LONGEST_LINE⟧).entry) ≡ longest_line) × ((← (⟦Next::LONGEST_ANSWER⟧).entry) ≡ longest_answer) ⌝ }
+        ensures longest_list { Next.LONGEST_LIST ≡ longest_list }
+        ensures longest_line { Next.LONGEST_LINE ≡ longest_line }
+        ensures longest_answer { Next.LONGEST_ANSWER ≡ longest_answer }
     {}
 }
 

@@ -4,7 +4,7 @@ use mathlib.Core.Bool.{Bool, true, false}
 use mathlib.Core.Path.{◌≡◌, refl}
 use Prim.Native.Nat.{ℕ, ◌+◌, ◌<◌, ◌≤◌}
 use native.Mathlib.Omega.{arith}
-use borrow.Author.Tests.{lt_ltb, le-ltb, le-leb, lt-leb, ltb-true, leb-true}
+use borrow.Author.Tests.{lt-ltb, le-ltb, le-leb, lt-leb, ltb-true, leb-true}
 use lib.Dec.{ltb, leb}
 use Rattle.laws.proofs.Tests.{both}
 use Rattle.laws.specs.Pick.{pick}
@@ -34,12 +34,12 @@ module _ (m : Mem) (r : ℕ) where
   module _ (inside : r < records_in m.nodes) where
     pub reads_unmarked : used_at m.used r ≡ false → node_at m r ≡ Broken unused_record
     unfolding node_at
-    reads_unmarked e = rw (lt_ltb r (records_in m.nodes) inside, e)
+    reads_unmarked e = rw (lt-ltb r (records_in m.nodes) inside, e)
 
     module _ (marked : used_at m.used r ≡ true) where
       pub reads-run_outside : slots_in m.slots < (node_in m.nodes r).start + (node_in m.nodes r).model.l → node_at m r ≡ Broken run_outside
       unfolding node_at node_fits
-      reads-run_outside h = rw (lt_ltb r (records_in m.nodes) inside, marked, lt-leb _ (slots_in m.slots) h)
+      reads-run_outside h = rw (lt-ltb r (records_in m.nodes) inside, marked, lt-leb _ (slots_in m.slots) h)
 
       module _ (fits : (node_in m.nodes r).start + (node_in m.nodes r).model.l ≤ slots_in m.slots) where
         pub reads_unfit : (InRange (node_in m.nodes r).model → ⊥) → node_at m r ≡ Broken model_out_of_range
@@ -47,12 +47,12 @@ module _ (m : Mem) (r : ℕ) where
         reads_unfit unfit =
             both (in_range (node_in m.nodes r).model)
             (λ e. absurd (unfit (passes_range _ e)))
-            (λ e. rw (lt_ltb r (records_in m.nodes) inside, marked, le-leb _ (slots_in m.slots) fits, e))
+            (λ e. rw (lt-ltb r (records_in m.nodes) inside, marked, le-leb _ (slots_in m.slots) fits, e))
 
         pub reads-good : InRange (node_in m.nodes r).model → node_at m r ≡ Good (node_in m.nodes r)
         unfolding node_at node_fits
         reads-good range =
-            rw (lt_ltb r (records_in m.nodes) inside, marked, le-leb _ (slots_in m.slots) fits, range_passes _ range)
+            rw (lt-ltb r (records_in m.nodes) inside, marked, le-leb _ (slots_in m.slots) fits, range_passes _ range)
 
 pub good-reads : (m : Mem) (r : ℕ) (n : Node) → GoodNode m r n → node_at m r ≡ Good n
 good-reads m r n g = rw g.is (reads-good m r g.inside g.marked (rw g.is at g.fits) (rw g.is at g.range))

@@ -3,7 +3,7 @@ use mathlib.Core.List.{List}
 use mathlib.Core.Path.{◌≡◌, ◌∙◌}
 use Prim.Native.Nat.{ℕ, ◌+◌, ◌*◌, ◌/◌, ◌%◌, ◌<◌}
 use native.Mathlib.Omega.{arith}
-use borrow.Author.Tests.{eq_eqb, ne_eqb, eqb_true, eqb-false}
+use borrow.Author.Tests.{eq-eqb, ne_eqb, eqb-true, eqb-false}
 use lib.Dec.{eqb}
 use lib.ListN.{get_or}
 use Rattle.laws.proofs.Tests.{both}
@@ -17,15 +17,15 @@ use Rattle.pool.specs.declared.Slot.TheVariants.{Null, Data, Child, Broken}
 module _ (n : Node) (j x : ℕ) where
   pub says-null : x / kind_unit ≡ null_kind → slot_says n j x ≡ Null
   unfolding slot_says
-  says-null k = rw (eq_eqb (x / kind_unit) null_kind k)
+  says-null k = rw (eq-eqb (x / kind_unit) null_kind k)
 
   pub says-data : x / kind_unit ≡ data_kind → slot_of n.model (value_of (x % kind_unit)) ≡ j → slot_says n j x ≡ Data (x % kind_unit)
   unfolding slot_says
-  says-data k e = rw (ne_eqb (x / kind_unit) null_kind (λ z. omega arith), eq_eqb (x / kind_unit) data_kind k, eq_eqb _ j e)
+  says-data k e = rw (ne_eqb (x / kind_unit) null_kind (λ z. omega arith), eq-eqb (x / kind_unit) data_kind k, eq-eqb _ j e)
 
   pub says_misplaced : x / kind_unit ≡ data_kind → (slot_of n.model (value_of (x % kind_unit)) ≡ j → ⊥) → slot_says n j x ≡ Broken misplaced_key
   unfolding slot_says
-  says_misplaced k d = rw (ne_eqb (x / kind_unit) null_kind (λ z. omega arith), eq_eqb (x / kind_unit) data_kind k, ne_eqb _ j d)
+  says_misplaced k d = rw (ne_eqb (x / kind_unit) null_kind (λ z. omega arith), eq-eqb (x / kind_unit) data_kind k, ne_eqb _ j d)
 
   pub says-child : x / kind_unit ≡ node_kind → slot_says n j x ≡ Child (x % kind_unit)
   unfolding slot_says
@@ -33,7 +33,7 @@ module _ (n : Node) (j x : ℕ) where
       rw (
         ne_eqb (x / kind_unit) null_kind (λ z. omega arith),
         ne_eqb (x / kind_unit) data_kind (λ z. omega arith),
-        eq_eqb (x / kind_unit) node_kind k,
+        eq-eqb (x / kind_unit) node_kind k,
       )
 
   pub says-unknown : (x / kind_unit ≡ null_kind → ⊥) → (x / kind_unit ≡ data_kind → ⊥) → (x / kind_unit ≡ node_kind → ⊥) → slot_says n j x ≡ Broken unknown_kind
@@ -83,17 +83,17 @@ kinds : {A : Type 0} (n : Node) (j x : ℕ)
     → A
 kinds n j x if_null if_data if_child if_broken =
     both (eqb (x / kind_unit) null_kind)
-    (λ a. let k = eqb_true _ _ a in if_null k (says-null n j x k))
+    (λ a. let k = eqb-true _ _ a in if_null k (says-null n j x k))
     (λ a.
     both (eqb (x / kind_unit) data_kind)
     (λ b.
-    let k = eqb_true _ _ b in
+    let k = eqb-true _ _ b in
     both (eqb (slot_of n.model (value_of (x % kind_unit))) j)
-    (λ c. let q = eqb_true _ _ c in if_data k q (says-data n j x k q))
+    (λ c. let q = eqb-true _ _ c in if_data k q (says-data n j x k q))
     (λ c. if_broken _ (says_misplaced n j x k (eqb-false _ _ c))))
     (λ b.
     both (eqb (x / kind_unit) node_kind)
-    (λ c. let k = eqb_true _ _ c in if_child k (says-child n j x k))
+    (λ c. let k = eqb-true _ _ c in if_child k (says-child n j x k))
     (λ c. if_broken _ (says-unknown n j x (eqb-false _ _ a) (eqb-false _ _ b) (eqb-false _ _ c)))))
 
 zero_not_one : ◌≡◌ {A = ℕ} 0 1 → ⊥

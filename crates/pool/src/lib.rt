@@ -1,4 +1,6 @@
 // The memory: node records and slots in lent words, read under the damage rules and written. The words are in docs/MEMORY.md.
+#![tactic(auto)]
+
 ghost use Rattle.std.specs.Prelude.{◌≡◌, ◌+◌, ◌*◌, ◌^◌, ◌<◌, ◌≤◌, length, replicate};
 ghost use Rattle.laws.specs.Keys.{key_bound};
 ghost use Rattle.model.specs.Slots.{InRange};
@@ -11,7 +13,7 @@ use model::Model;
 
 // A node as its record has it: its model, and the first slot of its run. One that node_at calls good has its model in range
 // and its run of model.l slots within the pool.
-#[derive(Drop)]
+#[derive(Clone, Copy)]
 pub struct Node {
     pub model: Model,
     pub start: usize,
@@ -24,7 +26,7 @@ impl Node {
 }
 
 // A record read: the node, or the first rule that it breaks.
-#[derive(Drop)]
+#[derive(Clone, Copy)]
 pub enum Record {
     Good(Node),
     Broken(u8),
@@ -39,7 +41,7 @@ impl Record {
 }
 
 // A slot read: nothing, a key, the record of a child, or the first rule that it breaks. A key and a record are below UNIT.
-#[derive(Drop)]
+#[derive(Clone, Copy)]
 pub enum Slot {
     Null,
     Data(u64),

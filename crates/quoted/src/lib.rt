@@ -1,5 +1,7 @@
 // Every public call once more, under the contract that crates/demands/specs/Coincide quotes. Nobody calls these: that they are proved
 // shows that a call's own contract gives what is quoted of it, so that what is shown of the quotes holds of the calls.
+#![tactic(auto)]
+
 ghost use Rattle.demands.specs.Coincide.{Pack, Unpack, SlotChoice, ModelChoice, Load, Lookup, Replace, Delete, Band, Insert, EdgePack, EdgeSlotChoice, EdgeModelChoice, DeskUnpack, DeskLoad, DeskLookup, DeskReplace, DeskDelete, DeskBand, DeskInsert};
 
 use desk::{
@@ -43,8 +45,8 @@ pub fn load(
     slots: &mut [u64],
     used: &mut [u64],
 ) -> Loaded
-    ensures* { λ r. ⌜ Load capacity keys.now payloads.now nodes.old slots.old used.old
-        (record { r = r; nodes = nodes.new; slots = slots.new; used = used.new }) ⌝ }
+    ensures { Load capacity keys.now payloads.now nodes.old slots.old used.old
+        (record { r = r; nodes = nodes.new; slots = slots.new; used = used.new }) }
 {
     store::load(capacity, keys, payloads, nodes, slots, used)
 }
@@ -63,13 +65,13 @@ pub fn replace(
     slots: &mut [u64],
     used: &[u64],
 ) -> Changing
-    ensures* { λ r. ⌜ Replace h key payload nodes.now slots.old used.now (record { r = r; slots = slots.new }) ⌝ }
+    ensures { Replace h key payload nodes.now slots.old used.now (record { r = r; slots = slots.new }) }
 {
     store::replace(h, key, payload, nodes, slots, used)
 }
 
 pub fn delete(h: Handle, key: u64, nodes: &[u64], slots: &mut [u64], used: &[u64]) -> Changing
-    ensures* { λ r. ⌜ Delete h key nodes.now slots.old used.now (record { r = r; slots = slots.new }) ⌝ }
+    ensures { Delete h key nodes.now slots.old used.now (record { r = r; slots = slots.new }) }
 {
     delete::delete(h, key, nodes, slots, used)
 }
@@ -84,8 +86,8 @@ pub fn band(
     keys: &mut [u64],
     payloads: &mut [u64],
 ) -> Listed
-    ensures* { λ r. ⌜ Band h u v nodes.now slots.now used.now keys.old payloads.old
-        (record { r = r; keys = keys.new; payloads = payloads.new }) ⌝ }
+    ensures { Band h u v nodes.now slots.now used.now keys.old payloads.old
+        (record { r = r; keys = keys.new; payloads = payloads.new }) }
 {
     store::bands::band(h, u, v, nodes, slots, used, keys, payloads)
 }
@@ -101,9 +103,9 @@ pub fn insert(
     payloads: &mut [u64],
     places: &mut [u64],
 ) -> Inserting
-    ensures* { λ r. ⌜ Insert h key payload nodes.old slots.old used.old
+    ensures { Insert h key payload nodes.old slots.old used.old
         keys.old payloads.old places.old
-        (record { r = r; nodes = nodes.new; slots = slots.new; used = used.new; keys = keys.new; payloads = payloads.new; places = places.new }) ⌝ }
+        (record { r = r; nodes = nodes.new; slots = slots.new; used = used.new; keys = keys.new; payloads = payloads.new; places = places.new }) }
 {
     insert::insert(h, key, payload, nodes, slots, used, keys, payloads, places)
 }
@@ -122,8 +124,8 @@ pub fn desk_load(
     slots: &mut [u64],
     used: &mut [u64],
 ) -> LoadedAnswer
-    ensures* { λ r. ⌜ DeskLoad capacity keys.now payloads.now nodes.old slots.old used.old
-        (record { r = r; nodes = nodes.new; slots = slots.new; used = used.new }) ⌝ }
+    ensures { DeskLoad capacity keys.now payloads.now nodes.old slots.old used.old
+        (record { r = r; nodes = nodes.new; slots = slots.new; used = used.new }) }
 {
     desk::soorqabiye_load(capacity, keys, payloads, nodes, slots, used)
 }
@@ -142,7 +144,7 @@ pub fn desk_replace(
     slots: &mut [u64],
     used: &[u64],
 ) -> ChangedAnswer
-    ensures* { λ r. ⌜ DeskReplace h key payload nodes.now slots.old used.now (record { r = r; slots = slots.new }) ⌝ }
+    ensures { DeskReplace h key payload nodes.now slots.old used.now (record { r = r; slots = slots.new }) }
 {
     desk::soorqabiye_replace(h, key, payload, nodes, slots, used)
 }
@@ -154,7 +156,7 @@ pub fn desk_delete(
     slots: &mut [u64],
     used: &[u64],
 ) -> ChangedAnswer
-    ensures* { λ r. ⌜ DeskDelete h key nodes.now slots.old used.now (record { r = r; slots = slots.new }) ⌝ }
+    ensures { DeskDelete h key nodes.now slots.old used.now (record { r = r; slots = slots.new }) }
 {
     desk::soorqabiye_delete(h, key, nodes, slots, used)
 }
@@ -169,8 +171,8 @@ pub fn desk_band(
     keys: &mut [u64],
     payloads: &mut [u64],
 ) -> ListedAnswer
-    ensures* { λ r. ⌜ DeskBand h u v nodes.now slots.now used.now keys.old payloads.old
-        (record { r = r; keys = keys.new; payloads = payloads.new }) ⌝ }
+    ensures { DeskBand h u v nodes.now slots.now used.now keys.old payloads.old
+        (record { r = r; keys = keys.new; payloads = payloads.new }) }
 {
     desk::soorqabiye_band(h, u, v, nodes, slots, used, keys, payloads)
 }
@@ -186,9 +188,9 @@ pub fn desk_insert(
     payloads: &mut [u64],
     places: &mut [u64],
 ) -> InsertedAnswer
-    ensures* { λ r. ⌜ DeskInsert h key payload nodes.old slots.old used.old
+    ensures { DeskInsert h key payload nodes.old slots.old used.old
         keys.old payloads.old places.old
-        (record { r = r; nodes = nodes.new; slots = slots.new; used = used.new; keys = keys.new; payloads = payloads.new; places = places.new }) ⌝ }
+        (record { r = r; nodes = nodes.new; slots = slots.new; used = used.new; keys = keys.new; payloads = payloads.new; places = places.new }) }
 {
     desk::soorqabiye_insert(h, key, payload, nodes, slots, used, keys, payloads, places)
 }

@@ -6,7 +6,7 @@ use mathlib.Core.Logic.{⊎_elim}
 use mathlib.Core.Path.{◌≡◌, refl, ◌∙◌}
 use Prim.Native.Nat.{ℕ, zero, suc, ◌+◌, ◌<◌, ◌≤◌}
 use native.Mathlib.Omega.{arith}
-use borrow.Author.Tests.{lt_ltb, le-ltb, ltb-true, ltb-false}
+use borrow.Author.Tests.{lt-ltb, le-ltb, ltb-true, ltb-false}
 use lib.Dec.{ltb}
 use lib.ListN.{length, get_or}
 use Rattle.build.proofs.Heights.{child_lower}
@@ -53,7 +53,7 @@ module _ (a p b q : ℕ) (m : Mem) where
 
   pub pair-first : (c : Bool) (o : Out) → c ≡ true → a < b → o ≡ build longest_path (a ∷ b ∷ []) (p ∷ q ∷ []) m → o ≡ pair_if c a p b q m
   unfolding pair_if pair_of
-  pair-first c o e h f = rw (e, lt_ltb a b h) f
+  pair-first c o e h f = rw (e, lt-ltb a b h) f
 
   pub pair-second : (c : Bool) (o : Out) → c ≡ true → b ≤ a → o ≡ build longest_path (b ∷ a ∷ []) (q ∷ p ∷ []) m → o ≡ pair_if c a p b q m
   unfolding pair_if pair_of

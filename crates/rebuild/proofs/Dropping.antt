@@ -6,7 +6,7 @@ use mathlib.Core.Logic.{⊎_elim}
 use mathlib.Core.Path.{◌≡◌, refl, sym, ap, ◌∙◌}
 use Prim.Native.Nat.{ℕ, zero, suc, ◌+◌, ◌*◌, ◌-◌, ◌/◌, ◌%◌, ◌^◌, ◌<◌}
 use native.Mathlib.Omega.{arith}
-use borrow.Author.Tests.{eqb_true, eqb-false, le-leb, lt-leb, lt_ltb, le-ltb}
+use borrow.Author.Tests.{eqb-true, eqb-false, le-leb, lt-leb, lt-ltb, le-ltb}
 use lib.Dec.{eqb, leb, ltb}
 use lib.ListN.{length, get_or, set, replicate, length-replicate}
 use lib.Seq.{sets, length-sets, ext_get_or, set-set, set_comm, get_or-set_same, get_or-set_other}
@@ -35,7 +35,7 @@ zeros_at l i n p =
     ⊎_elim
     (λ a. ⊎_elim
     (λ b. let e : length {A = ℕ} (replicate n 0) ≡ n = length-replicate n 0 in rw (le-leb i p a, le-ltb p (i + n) b) (sets_past l i (replicate n 0) p (omega arith)))
-    (λ b. rw (le-leb i p a, lt_ltb p (i + n) b) (sets_zeros l i n p a b))
+    (λ b. rw (le-leb i p a, lt-ltb p (i + n) b) (sets_zeros l i n p a b))
     (le_or_lt (i + n) p))
     (λ a. rw (lt-leb i p a) (sets_before l i (replicate n 0) p a))
     (le_or_lt i p)
@@ -84,7 +84,7 @@ lower_swap : (u : List ℕ) (p q : ℕ) → used_at u p ≡ true → used_at u q
 lower_swap u p q a b =
     both (eqb (q / 64) (p / 64))
     (λ t.
-    let d : q / 64 ≡ p / 64 = eqb_true _ _ t in
+    let d : q / 64 ≡ p / 64 = eqb-true _ _ t in
     let w : p / 64 < length u = used-within u p a in
     let o : get_or u (p / 64) 0 - 2 ^ (p % 64) - 2 ^ (q % 64) ≡ get_or u (p / 64) 0 - 2 ^ (q % 64) - 2 ^ (p % 64) = omega arith in
     rw (d, get_or-set_same u (p / 64) (get_or u (p / 64) 0 - 2 ^ (p % 64)) 0 w, get_or-set_same u (p / 64) (get_or u (p / 64) 0 - 2 ^ (q % 64)) 0 w)
@@ -97,7 +97,7 @@ lower_swap u p q a b =
 clear-swap : (u : List ℕ) (p q : ℕ) → clear_at (clear_at u p) q ≡ clear_at (clear_at u q) p
 clear-swap u p q =
     both (eqb q p)
-    (λ t. let d : q ≡ p = eqb_true _ _ t in rw d)
+    (λ t. let d : q ≡ p = eqb-true _ _ t in rw d)
     (λ t.
     let d : q ≡ p → ⊥ = eqb-false _ _ t in
     let x : used_at (clear_at u p) q ≡ used_at u q = clear-other u p q d in

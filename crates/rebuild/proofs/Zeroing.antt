@@ -6,7 +6,7 @@ use mathlib.Core.Bool.{false}
 use mathlib.Core.Path.{◌≡◌, refl, sym, ap, ◌∙◌}
 use Prim.Native.Nat.{ℕ, ◌+◌, ◌<◌, ◌≤◌}
 use native.Mathlib.Omega.{arith}
-use borrow.Author.Tests.{eqb_true, eqb-false}
+use borrow.Author.Tests.{eqb-true, eqb-false}
 use lib.Dec.{eqb}
 use Rattle.build.proofs.Releasing.{Frees, frees_same, frees_both, drop_frees}
 use Rattle.build.specs.Releasing.{drop_node}
@@ -59,7 +59,7 @@ pub has_or_not : (q : ℕ) (xs : List Met) → Has q xs ⊎ ((x : Met) → In x 
 has_or_not q [] = inr (λ x h e. h)
 has_or_not q (a ∷ xs) =
     both (eqb a.at q)
-    (λ t. inl (record { one = a; among = inl refl; at = eqb_true _ _ t }))
+    (λ t. inl (record { one = a; among = inl refl; at = eqb-true _ _ t }))
     (λ t.
     ⊎_elim
     (λ h. inl (has_in {q = q} (λ x k. inr k) h))

@@ -1,5 +1,7 @@
 // Rebuilding a subtree: a tree over its live keys and a new one takes the places that it finds, and only then is the old one
 // released.
+#![tactic(auto)]
+
 pub mod pairs;
 
 ghost use Rattle.std.specs.Prelude.{◌≡◌, ◌<◌, ◌≤◌, length};

@@ -1,4 +1,6 @@
 // The session program (document 01, "The session program"): operations from standard input, answers to standard output, in blocks.
+#![tactic(auto)]
+
 ghost use Rattle.std.specs.Prelude.{◌≡◌, ◌+◌, ◌-◌, ◌^◌, ◌<◌, ◌≤◌, length, replicate, take, drop};
 ghost use Rattle.operations.specs.Blocks.{Rests};
 ghost use Rattle.operations.specs.Runs.{RunsTo};
@@ -15,7 +17,7 @@ use pool::Node;
 use store::{Handle, Loaded};
 
 // Where a session stands: the handle, how many bytes of the input lie before those held, how many are held, and whether no more come.
-#[derive(Drop)]
+#[derive(Clone, Copy)]
 pub struct Stage {
     pub handle: Handle,
     pub offset: u64,
@@ -38,7 +40,7 @@ impl Stage {
 }
 
 // What one turn leaves: where the session stands, how many bytes are to be written out, and why the block was left.
-#[derive(Drop)]
+#[derive(Clone, Copy)]
 pub struct Turn {
     pub stage: Stage,
     pub printed: usize,
@@ -46,7 +48,7 @@ pub struct Turn {
 }
 
 // Where the session stands once more input was read, where any is to be read, and whether it is over.
-#[derive(Drop)]
+#[derive(Clone, Copy)]
 pub struct Onward {
     pub stage: Stage,
     pub over: bool,

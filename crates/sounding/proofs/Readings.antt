@@ -10,7 +10,7 @@ use lib.Signed.{◌≤ℤ◌, non_neg}
 use borrow.Author.Tests.{leb-true}
 use mir.Syntax.{w64}
 use mir.Val.{Fits, SFits, to_z, of_z}
-use mir.ValLaws.{to_z_of_z, to_z_pos}
+use mir.ValLaws.{to_z-of_z, to_z_pos}
 use Rattle.laws.proofs.Quotients.{product_under}
 use Rattle.sounding.specs.Studio.{least_depth, most_depth}
 use Rattle.sounding.proofs.Depths.{sum_is_natural, sum_below}
@@ -18,7 +18,7 @@ use Rattle.sounding.proofs.Depths.{sum_is_natural, sum_below}
 -- a depth in range, counted from o below 0: 20,000 is the least o from which no depth is negative
 module _ (d : ℤ) (fits : SFits w64 d) (least : least_depth ≤ℤ d) (most : d ≤ℤ most_depth) (o : ℕ) (from : 20000 ≤ o) (upto : o < 2 ^ 32) where
   reads_as_the_count : to_z w64 (of_z w64 d) +ℤ pos o ≡ pos (nat_abs (d +ℤ pos o))
-  reads_as_the_count = ap (λ (z : ℤ). z +ℤ pos o) (to_z_of_z w64 d fits) ∙ sum_is_natural d o least from
+  reads_as_the_count = ap (λ (z : ℤ). z +ℤ pos o) (to_z-of_z w64 d fits) ∙ sum_is_natural d o least from
 
   count_small : nat_abs (d +ℤ pos o) < 2 ^ 35
   count_small = omega (arith, sum_below d o least most from)
@@ -30,7 +30,7 @@ module _ (d : ℤ) (fits : SFits w64 d) (least : least_depth ≤ℤ d) (most : d
   difference_fits = subst⁻¹ (SFits w64) reads_as_the_count count_fits
 
   pub difference_reads : to_z w64 (of_z w64 (to_z w64 (of_z w64 d) +ℤ pos o)) ≡ pos (nat_abs (d +ℤ pos o))
-  difference_reads = to_z_of_z w64 _ difference_fits ∙ reads_as_the_count
+  difference_reads = to_z-of_z w64 _ difference_fits ∙ reads_as_the_count
 
   pub difference_casts : T (non_neg (to_z w64 (of_z w64 (to_z w64 (of_z w64 d) +ℤ pos o)))) × Fits w64 (nat_abs (to_z w64 (of_z w64 (to_z w64 (of_z w64 d) +ℤ pos o))))
   difference_casts = rw difference_reads (tt, record { fits = omega (arith, count_small) })
@@ -61,4 +61,4 @@ module _ (u k : ℕ) (left : u < 2 ^ 63) (right : k < 2 ^ 63) where
   sum_fits = subst⁻¹ (SFits w64) reads_as_the_sum (fits_either_way (ltb u (suc k)))
 
   pub sum-reads : to_z w64 (of_z w64 (to_z w64 u +ℤ negsuc k)) ≡ pos u +ℤ negsuc k
-  sum-reads = to_z_of_z w64 _ sum_fits ∙ reads_as_the_sum
+  sum-reads = to_z-of_z w64 _ sum_fits ∙ reads_as_the_sum

@@ -1,12 +1,14 @@
 // Studio keys. A sounding's depth and number are packed into one key, so that key order is shoalest first, and a key is taken
 // apart again. Both calls answer for every number that a caller can pass: out of range is an answer of its own.
+#![tactic(auto)]
+
 ghost use Rattle.std.specs.Prelude.{◌≡◌};
 ghost use Rattle.sounding.specs.Studio.{least_depth, most_depth, most_number, packed, pack_of, unpacked, unpack_of};
 
 use laws::Key;
 
 // A depth in centimetres, negative where it dries, and the sounding's number at that depth.
-#[derive(Drop)]
+#[derive(Clone, Copy)]
 pub struct Sounding {
     pub depth: i64,
     pub number: u64,
@@ -24,17 +26,19 @@ impl Sounding {
 
     // Nobody calls it: its contract says that the constants are those of the definitions.
     pub fn limits()
-        ensures* { do ⌜ ((← (⟦Sounding::LEAST_DEPTH⟧).entry) ≡ least_depth) × ((← (⟦Sounding::MOST_DEPTH⟧).entry) ≡ most_depth) × ((← (⟦Sounding::MOST_NUMBER⟧).entry) ≡ most_number) ⌝ }
+        ensures least_depth { Sounding.LEAST_DEPTH ≡ least_depth }
+        ensures most_depth { Sounding.MOST_DEPTH ≡ most_depth }
+        ensures most_number { Sounding.MOST_NUMBER ≡ most_number }
     {}
 }
 
-#[derive(Drop)]
+#[derive(Clone, Copy)]
 pub enum Packed {
     Key(u64),
     OutOfRange,
 }
 
-#[derive(Drop)]
+#[derive(Clone, Copy)]
 pub enum Unpacked {
     Of(Sounding),
     OutOfRange,

@@ -3,7 +3,7 @@ use mathlib.Core.Bool.{true, false}
 use mathlib.Core.List.{List}
 use mathlib.Core.Path.{◌≡◌}
 use Prim.Native.Nat.{ℕ, ◌<◌, ◌≤◌}
-use borrow.Author.Tests.{eq_eqb, ne_eqb, lt_ltb, le-ltb, le-leb, lt-leb}
+use borrow.Author.Tests.{eq-eqb, ne_eqb, lt-ltb, le-ltb, le-leb, lt-leb}
 use lib.ListN.{length}
 use lib.Seq.{sets}
 use Rattle.laws.specs.Keys.{key_bound}
@@ -31,22 +31,22 @@ module _ (h : Handle) (u v : ℕ) (m : Mem) (ks ps : List ℕ) where
     module _ (same : length ks ≡ length ps) where
       pub band-first-out : key_bound ≤ u → band (listed OutOfRange) ks ps ≡ band_of h u v m ks ps
       unfolding band_of listed
-      band-first-out e = rw (fits, eq_eqb (length ks) (length ps) same, le-ltb u key_bound e)
+      band-first-out e = rw (fits, eq-eqb (length ks) (length ps) same, le-ltb u key_bound e)
 
       module _ (low : u < key_bound) where
         pub band_last_out : key_bound ≤ v → band (listed OutOfRange) ks ps ≡ band_of h u v m ks ps
         unfolding band_of listed
-        band_last_out e = rw (fits, eq_eqb (length ks) (length ps) same, lt_ltb u key_bound low, le-ltb v key_bound e)
+        band_last_out e = rw (fits, eq-eqb (length ks) (length ps) same, lt-ltb u key_bound low, le-ltb v key_bound e)
 
         module _ (high : v < key_bound) where
           pub band-reversed : v < u → band (listed Reversed) ks ps ≡ band_of h u v m ks ps
           unfolding band_of listed
-          band-reversed e = rw (fits, eq_eqb (length ks) (length ps) same, lt_ltb u key_bound low, lt_ltb v key_bound high, lt-leb u v e)
+          band-reversed e = rw (fits, eq-eqb (length ks) (length ps) same, lt-ltb u key_bound low, lt-ltb v key_bound high, lt-leb u v e)
 
           module _ (order : u ≤ v) where
             at_listing : band_out m (listing u v (length ks) (band_items h u v m)) ks ps ≡ band_of h u v m ks ps
             unfolding band_of
-            at_listing = rw (fits, eq_eqb (length ks) (length ps) same, lt_ltb u key_bound low, lt_ltb v key_bound high, le-leb u v order)
+            at_listing = rw (fits, eq-eqb (length ks) (length ps) same, lt-ltb u key_bound low, lt-ltb v key_bound high, le-leb u v order)
 
             pub band-damage : Spoilt ≡ count_from 0 (listing u v (length ks) (band_items h u v m)) → band (listed Damage) ks ps ≡ band_of h u v m ks ps
             unfolding band_out listed

@@ -5,7 +5,7 @@ use mathlib.Core.Path.{◌≡◌, refl, sym, ap, ◌∙◌}
 use Prim.Native.Nat.{ℕ, zero, suc, ◌+◌, ◌-◌, ◌<◌, ◌≤◌}
 use native.Mathlib.Numerals.{add-one}
 use native.Mathlib.Omega.{arith}
-use borrow.Author.Tests.{lt_ltb, le-ltb, le-leb, lt-leb, ltb-true, leb-true}
+use borrow.Author.Tests.{lt-ltb, le-ltb, le-leb, lt-leb, ltb-true, leb-true}
 use lib.Dec.{ltb, leb}
 use lib.ListN.{length, get_or, drop, drop_of_length-le}
 use lib.Seq.{drop-cons}
@@ -31,11 +31,11 @@ module _ (ks : List ℕ) (i least : ℕ) (whole : Fault) (inv : fault_from i lea
 
     pub fault_fall : get_or ks i 0 < key_bound → get_or ks i 0 < least → NotRising i ≡ whole
     unfolding fault_from
-    fault_fall lt low = rw (lt_ltb (get_or ks i 0) key_bound lt, lt-leb least (get_or ks i 0) low) at here
+    fault_fall lt low = rw (lt-ltb (get_or ks i 0) key_bound lt, lt-leb least (get_or ks i 0) low) at here
 
     pub fault_on : get_or ks i 0 < key_bound → least ≤ get_or ks i 0 → fault_from (i + 1) (get_or ks i 0 + 1) (drop (i + 1) ks) ≡ whole
     unfolding fault_from
-    fault_on lt up = rw (add-one i) (rw (lt_ltb (get_or ks i 0) key_bound lt, le-leb least (get_or ks i 0) up, add-one i) at here)
+    fault_on lt up = rw (add-one i) (rw (lt-ltb (get_or ks i 0) key_bound lt, le-leb least (get_or ks i 0) up, add-one i) at here)
 
 -- a list without a fault
 abbrev Fine : ℕ → List ℕ → Type 0

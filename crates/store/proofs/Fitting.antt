@@ -3,7 +3,7 @@ use mathlib.Core.Bool.{Bool, true, false, ◌&&◌}
 use mathlib.Core.Path.{◌≡◌, refl, sym, ◌∙◌}
 use Prim.Native.Nat.{ℕ, ◌+◌, ◌*◌, ◌/◌, ◌<◌, ◌≤◌}
 use native.Mathlib.Omega.{arith}
-use borrow.Author.Tests.{le-leb, leb-true, eq_eqb, eqb_true}
+use borrow.Author.Tests.{le-leb, leb-true, eq-eqb, eqb-true}
 use lib.Dec.{leb, eqb}
 use lib.ListN.{length}
 use Rattle.laws.proofs.Tests.{and_both, and_true, fails}
@@ -55,14 +55,14 @@ pub record Pools (records slots : ℕ) (m : Mem) : Type 0 where
 module _ (r s : ℕ) (m : Mem) where
   pub pools_pass : Pools r s m → true ≡ pools_are r s m
   unfolding pools_are
-  pools_pass h = sym (and_true (eq_eqb _ _ h.nodes-are) (and_true (eq_eqb _ _ h.slots-are) (eq_eqb _ _ h.map_is)))
+  pools_pass h = sym (and_true (eq-eqb _ _ h.nodes-are) (and_true (eq-eqb _ _ h.slots-are) (eq-eqb _ _ h.map_is)))
 
   pub pools_given : pools_are r s m ≡ true → Pools r s m
   unfolding pools_are
   pools_given e =
       let a = and_both (eqb (length m.nodes) (r * record_words)) _ e in
       let b = and_both (eqb (length m.slots) (s * slot_words)) _ a.1 in
-      record { nodes-are = eqb_true _ _ a.0; slots-are = eqb_true _ _ b.0; map_is = eqb_true _ _ b.1 }
+      record { nodes-are = eqb-true _ _ a.0; slots-are = eqb-true _ _ b.0; map_is = eqb-true _ _ b.1 }
 
   pub pools_fail : (Pools r s m → ⊥) → false ≡ pools_are r s m
   pools_fail h = fails (pools_are r s m) (λ e. h (pools_given e))
@@ -70,7 +70,7 @@ module _ (r s : ℕ) (m : Mem) where
   -- the last test decides
   pub pools_last : length m.nodes ≡ r * record_words → length m.slots ≡ s * slot_words → eqb (length m.used) (map_words r s) ≡ pools_are r s m
   unfolding pools_are
-  pools_last a b = rw (eq_eqb _ _ a, eq_eqb _ _ b)
+  pools_last a b = rw (eq-eqb _ _ a, eq-eqb _ _ b)
 
 pub record Fits (h : Handle) (m : Mem) : Type 0 where
   pub limits : Limits h.capacity h.records h.slots

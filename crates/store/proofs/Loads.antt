@@ -5,7 +5,7 @@ use mathlib.Core.List.{List, [], ◌∷◌}
 use mathlib.Core.Path.{◌≡◌, refl, sym, ap, subst, ◌∙◌}
 use Prim.Native.Nat.{ℕ, ◌+◌, ◌*◌, ◌/◌, ◌<◌, ◌≤◌}
 use native.Mathlib.Omega.{arith}
-use borrow.Author.Tests.{eq_eqb, le-leb, lt-leb, eqb_true}
+use borrow.Author.Tests.{eq-eqb, le-leb, lt-leb, eqb-true}
 use lib.Dec.{leb, eqb}
 use lib.ListN.{length, replicate, length-replicate}
 use Rattle.build.proofs.Rooms.{empty_builds, builds_empty}
@@ -59,7 +59,7 @@ module _ (c : ℕ) (ks ps : List ℕ) (m : Mem) where
       let p = pools_given _ _ _ b.0 in
       record {
         rising = faultless_rises ks f;
-        same = sym (eqb_true _ _ b.1);
+        same = sym (eqb-true _ _ b.1);
         few = omega (arith, l.capacity-most);
         records = l.records-most;
         slots = l.slots-most;

@@ -5,7 +5,7 @@ use mathlib.Core.List.{List, [], ◌∷◌}
 use mathlib.Core.Path.{◌≡◌, refl, sym, ap, subst, ◌∙◌}
 use Prim.Native.Nat.{ℕ, ◌<◌, ◌≤◌}
 use native.Mathlib.Omega.{arith}
-use borrow.Author.Tests.{eq_eqb, ne_eqb, lt_ltb, le-ltb}
+use borrow.Author.Tests.{eq-eqb, ne_eqb, lt-ltb, le-ltb}
 use lib.Dec.{ltb, eqb}
 use lib.ListN.{length, get_or, set}
 use Rattle.laws.proofs.Tests.{both}
@@ -26,7 +26,7 @@ use Rattle.walk.specs.declared.Followed.{Followed}
 
 pub search_same : (k v q j : ℕ) → j ≡ k → At q v ≡ search_end k v (Key q j)
 unfolding search_end
-search_same k v q j e = rw (eq_eqb j k e)
+search_same k v q j e = rw (eq-eqb j k e)
 
 pub search_other : (k v q j : ℕ) → (j ≡ k → ⊥) → NotThere v ≡ search_end k v (Key q j)
 unfolding search_end
@@ -44,7 +44,7 @@ module _ (h : Handle) (k : ℕ) (m : Mem) where
   -- the walk's end decides
   pub search_ends : handle_fits h m ≡ true → k < key_bound → (f : Followed) → f ≡ follow_of m h.root k → (e : End) → f.end ≡ e → (s : Search) → s ≡ search_end k f.visits e → s ≡ search_of h k m
   unfolding search_of follow_of
-  search_ends p lt f q e r s u = rw (p, lt_ltb k key_bound lt, u, ← r, q)
+  search_ends p lt f q e r s u = rw (p, lt-ltb k key_bound lt, u, ← r, q)
 
   -- the slot found is one of the pool's
   end-within : (x : End) → (walk_of m h.root k).end ≡ x → (v q w : ℕ) → search_end k v x ≡ At q w → q < slots_in m.slots

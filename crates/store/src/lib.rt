@@ -1,4 +1,6 @@
 // The store: the handle, load, lookup and replace, and how a key is found; band stands in bands.rt.
+#![tactic(auto)]
+
 ghost use Rattle.std.specs.Prelude.{◌≡◌, ◌≤◌};
 ghost use Rattle.pool.specs.Memory.{mem};
 ghost use Rattle.store.specs.Calls.{call, search_of, lookup_of, replace_of, looked, changed};
@@ -15,7 +17,7 @@ pub mod bands;
 
 // What names a store between calls: the root's record, the count of keys, the capacity and the pools' sizes.
 #[repr(C)]
-#[derive(Drop)]
+#[derive(Clone, Copy)]
 pub struct Handle {
     pub root: usize,
     pub count: usize,
@@ -39,8 +41,12 @@ impl Handle {
 
     // Nobody calls it: its contract says that the constants are those of the definitions.
     pub fn limits()
-        ensures* fact { do ⌜ ((← (⟦Handle::LEAST_CAPACITY⟧).entry) ≡ least_capacity) × ((← (⟦Handle::MOST_CAPACITY⟧).entry) ≡ most_capacity) × ((← (⟦Handle::LEAST_RECORDS⟧).entry) ≡ least_records) ⌝ }
-        ensures* fact_2 { do ⌜ ((← (⟦Handle::MOST_RECORDS⟧).entry) ≡ most_records) × ((← (⟦Handle::LEAST_SLOTS⟧).entry) ≡ least_pool_slots) × ((← (⟦Handle::MOST_SLOTS⟧).entry) ≡ most_pool_slots) ⌝ }
+        ensures least_capacity { Handle.LEAST_CAPACITY ≡ least_capacity }
+        ensures most_capacity { Handle.MOST_CAPACITY ≡ most_capacity }
+        ensures least_records { Handle.LEAST_RECORDS ≡ least_records }
+        ensures most_records { Handle.MOST_RECORDS ≡ most_records }
+        ensures least_slots { Handle.LEAST_SLOTS ≡ least_pool_slots }
+        ensures most_slots { Handle.MOST_SLOTS ≡ most_pool_slots }
     {}
 
     pub fn new(root: usize, count: usize, capacity: usize, records: usize, slots: usize) -> Self
@@ -84,7 +90,7 @@ impl Handle {
 }
 
 // What load answers: the handle of the new store, or a refusal.
-#[derive(Drop)]
+#[derive(Clone, Copy)]
 pub enum Loaded {
     Done(Handle),
     WrongSizes,
@@ -95,7 +101,7 @@ pub enum Loaded {
 }
 
 // The first fault of a list to load, if it has one.
-#[derive(Drop)]
+#[derive(Clone, Copy)]
 pub enum Fault {
     Nothing,
     OutOfRange,
@@ -103,7 +109,7 @@ pub enum Fault {
 }
 
 // What lookup answers.
-#[derive(Drop)]
+#[derive(Clone, Copy)]
 pub enum Looked {
     Found(u64, usize),
     NotHeld(usize),
@@ -113,7 +119,7 @@ pub enum Looked {
 }
 
 // What replace and delete answer.
-#[derive(Drop)]
+#[derive(Clone, Copy)]
 pub enum Changed {
     Done,
     NotHeld(usize),
@@ -123,7 +129,7 @@ pub enum Changed {
 }
 
 // What a changing call gives: its answer and the next handle.
-#[derive(Drop)]
+#[derive(Clone, Copy)]
 pub struct Changing {
     pub answer: Changed,
     pub handle: Handle,
@@ -181,7 +187,7 @@ fn pools_are(
 }
 
 // What band answers: how many were listed and whether more remain (0 or 1), or a refusal.
-#[derive(Drop)]
+#[derive(Clone, Copy)]
 pub enum Listed {
     Done(usize, usize),
     WrongSizes,
@@ -191,7 +197,7 @@ pub enum Listed {
 }
 
 // Where a key is held, or why there is no telling.
-#[derive(Drop)]
+#[derive(Clone, Copy)]
 pub enum Search {
     At(usize, usize),
     NotThere(usize),

@@ -1,4 +1,6 @@
 // The two walks: following one key, and reading in slot order.
+#![tactic(auto)]
+
 ghost use Rattle.std.specs.Prelude.{◌≡◌, ◌+◌, ◌<◌, ◌≤◌, []};
 ghost use Rattle.laws.specs.Keys.{key_bound};
 ghost use Rattle.model.specs.Slots.{InRange};
@@ -10,7 +12,7 @@ use pool::{Node, Record, Slot};
 pub mod reading;
 
 // Where a key's path ends: at a NULL slot, at a DATA slot with its key, or at a broken rule.
-#[derive(Drop)]
+#[derive(Clone, Copy)]
 pub enum End {
     Empty(usize),
     Key(usize, u64),
@@ -22,14 +24,14 @@ impl End {
 }
 
 // One node of a walk: down to a child, or the end.
-#[derive(Drop)]
+#[derive(Clone, Copy)]
 pub enum Step {
     Down(usize),
     Stop(End),
 }
 
 // The nodes on a key's path, the root first.
-#[derive(Drop)]
+#[derive(Clone, Copy)]
 pub struct Path {
     pub nodes: [usize; Path::LONGEST],
     pub len: usize,
@@ -40,7 +42,7 @@ impl Path {
 
     // Nobody calls it: its contract says that the constant is that of the definitions.
     pub fn limits()
-        ensures* { do ⌜ (← (⟦Path::LONGEST⟧).entry) ≡ longest_path ⌝ }
+        ensures { Path.LONGEST ≡ longest_path }
     {}
 
     pub fn new() -> Self
@@ -54,28 +56,28 @@ impl Path {
 }
 
 // A walk's end, with how many nodes were visited.
-#[derive(Drop)]
+#[derive(Clone, Copy)]
 pub struct Followed {
     pub end: End,
     pub visits: usize,
 }
 
 // A walk's end, with the nodes on the way.
-#[derive(Drop)]
+#[derive(Clone, Copy)]
 pub struct Traced {
     pub end: End,
     pub path: Path,
 }
 
 // What a reading takes in each node: the slots from u's to v's, or all.
-#[derive(Drop)]
+#[derive(Clone, Copy)]
 pub enum Span {
     Between(u64, u64),
     Whole,
 }
 
 // What a reading meets: a node, an element with its slot, a broken rule; or its end.
-#[derive(Drop)]
+#[derive(Clone, Copy)]
 pub enum Event {
     Enter(usize, Node),
     Element(usize, u64),
@@ -85,7 +87,7 @@ pub enum Event {
 
 // Where a reading stands: the node it reads, its next slot and the one past its last, and how many nodes lie above it within
 // the reading. Their records and next slots lie in two lent lists of 24, highest first.
-#[derive(Drop)]
+#[derive(Clone, Copy)]
 pub struct Cursor {
     pub record: usize,
     pub node: Node,
@@ -95,7 +97,7 @@ pub struct Cursor {
 }
 
 // One step of a reading: what was met, and where it stands then.
-#[derive(Drop)]
+#[derive(Clone, Copy)]
 pub struct Moved {
     pub event: Event,
     pub cursor: Cursor,
@@ -103,7 +105,7 @@ pub struct Moved {
 
 // The rules of a whole reading: how many nodes and keys it may still meet, the least key that still rises, and in a rebuild the
 // key that may not be met and that every run is wholly marked.
-#[derive(Drop)]
+#[derive(Clone, Copy)]
 pub struct Rules {
     pub nodes: usize,
     pub keys: usize,
@@ -113,7 +115,7 @@ pub struct Rules {
 }
 
 // What a reading under the rules meets: an element with its slot, a broken rule, or its end.
-#[derive(Drop)]
+#[derive(Clone, Copy)]
 pub enum Item {
     Held(usize, u64),
     Broken,
@@ -121,7 +123,7 @@ pub enum Item {
 }
 
 // One item of a reading: what was met, the rules after it, and where the reading stands then.
-#[derive(Drop)]
+#[derive(Clone, Copy)]
 pub struct Next {
     pub item: Item,
     pub rules: Rules,

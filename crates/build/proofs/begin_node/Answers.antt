@@ -1,0 +1,28 @@
+-- `build::begin_node` meets its contract: the model is the choice over the keys, and the node takes the places found for it.
+-- Assumes nothing.
+use borrow.Author.Rules.{rules}
+use Rattle.pool.specs.Memory.{Mem, mem}
+use Rattle.build.proofs.Places.{chosen_is_in_range, begins_nowhere, found_within, begins_here}
+use Rattle.build.proofs.begin_node.Goals as goal
+
+-- the memory lent
+abbrev memory : tie.Start → Mem
+memory s = mem s.args.nodes.now s.args.slots.now s.args.used.now
+
+pub find_place-p-requires : goal.find_place-p-requires
+find_place-p-requires c =
+    let e = c.model_of-c.ensures in
+    (c.requires.1.1.0, (c.requires.1.1.1, chosen_is_in_range c.args.keys.now c.requires.0 _ e))
+
+pub place_node-requires : goal.place_node-requires
+place_node-requires c =
+    let within = found_within (memory s) c.args.keys.now _ c.model_of-c.ensures _ c.find_place-p.ensures _ c.p-1.given.1 in
+    (c.requires.1.1.0, (within.0, within.1))
+
+pub returns-in-Here : goal.returns-in-Here
+returns-in-Here c =
+    begins_here (memory s) c.args.keys.now _ c.model_of-c.ensures _ c.find_place-p.ensures _ c.p-1.given.1 _ c.place_node.ensures
+
+pub returns-in_default : goal.returns-in_default
+returns-in_default c =
+    begins_nowhere (memory s) c.args.keys.now _ c.model_of-c.ensures _ c.find_place-p.ensures c.enum_told-1.given.1

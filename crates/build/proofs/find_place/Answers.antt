@@ -1,0 +1,35 @@
+-- `build::find_place` meets its contract: the record is the lowest unused, and the run the lowest that fits. What the two
+-- searches require follows from the hint, and what they find is `place_for`. Assumes nothing.
+use mathlib.Core.Path.{sym}
+use native.Mathlib.Omega.{arith}
+use borrow.Author.Rules.{rules}
+use Rattle.marks.proofs.Lowest.{first_unused_at}
+use Rattle.pool.specs.Memory.{Mem, mem}
+use Rattle.build.proofs.Places.{hinted_records, no_record, no_run, run_here}
+use Rattle.build.proofs.find_place.Goals as goal
+
+-- the memory lent
+abbrev memory : tie.Start → Mem
+memory s = mem s.args.nodes.now s.args.slots.now s.args.used.now
+
+pub first_unused-record-requires : goal.first_unused-record-requires
+first_unused-record-requires c =
+    (omega (arith, c.requires.0), omega (arith, c.requires.0), c.requires.1.0.record-within, hinted_records (memory s) c.args.hint c.requires.1.0)
+
+pub returns-then-records-record : goal.returns-then-records-record
+returns-then-records-record c =
+    no_record (memory s) c.args.m _ c.first_unused-record.ensures c.if-records-record.true
+
+pub lowest_run-requires : goal.lowest_run-requires
+lowest_run-requires c =
+    let f = c.first_unused-first in
+    let first = first_unused_at c.args.used.now _ _ f.result (sym f.ensures) in
+    (omega (arith, c.requires.0), omega (arith, c.requires.0), omega (arith, c.requires.1.1), first.0, first.1)
+
+pub returns-in-Nowhere : goal.returns-in-Nowhere
+returns-in-Nowhere c =
+    no_run (memory s) c.args.m _ c.first_unused-record.ensures c.if-records-record.false _ c.lowest_run.ensures c.enum_told-1.given.1
+
+pub returns-in-At : goal.returns-in-At
+returns-in-At c =
+    run_here (memory s) c.args.m _ c.first_unused-record.ensures c.if-records-record.false _ c.lowest_run.ensures _ _ c.first_unused-first.ensures c.start-1.given.1

@@ -1,0 +1,13 @@
+-- `build::release::drop_node` meets its contract: its four stores are those of `drop_node`. Assumes nothing.
+use borrow.Author.Rules.{rules}
+use Rattle.build.specs.Releasing.{drop_node}
+use Rattle.build.proofs.release.drop_node.Goals as goal
+
+pub returns : goal.returns
+unfolding drop_node
+returns c =
+    let run = c.zero_run in
+    let node = c.zero_record in
+    let places = c.clear_run in
+    let place = c.clear in
+    rw (run.ensures, node.ensures, place.ensures, places.ensures)

@@ -1,0 +1,41 @@
+-- `room::place_one` meets its contract: the record is the lowest unused and the run the lowest that fits, and once both are found
+-- they are marked. What the searches require follows from where they may start. Assumes nothing.
+use mathlib.Core.Path.{refl, sym, ◌∙◌}
+use native.Mathlib.Omega.{arith}
+use borrow.Author.Rules.{rules}
+use Rattle.marks.proofs.Lowest.{first_unused_at, lowest_run_finds}
+use Rattle.marks.proofs.Marks.{mark-length}
+use Rattle.build.specs.Undoing.{marked_by}
+use Rattle.build.proofs.Undoing.{spot_no_record, spot_no_run, spot_here}
+use Rattle.build.proofs.room.place_one.Goals as goal
+
+pub returns-then-records-record : goal.returns-then-records-record
+unfolding marked_by
+returns-then-records-record c = (spot_no_record _ _ _ _ _ c.first_unused-record.ensures c.if-records-record.true, refl)
+
+pub lowest_run-requires : goal.lowest_run-requires
+lowest_run-requires c =
+    let f = c.first_unused-first in
+    let first = first_unused_at c.args.used.now _ _ f.result (sym f.ensures) in
+    (omega (arith, c.requires.0), omega (arith, c.requires.0), c.requires.1.1, first.0, first.1)
+
+pub returns-in_default : goal.returns-in_default
+unfolding marked_by
+returns-in_default c =
+    (spot_no_run _ _ _ _ _ c.before.before.before.before.before.first-unused.ensures c.before.before.before.before.if1.false _ c.before.before.first-unused2.ensures (sym c.enum_told-1.given.1 ∙ c.lowest_run.ensures), refl)
+
+pub overflow_add-records : goal.overflow_add-records
+overflow_add-records c =
+    let s = c.before.before.before.before.before.before.before.before in
+    omega (arith, s.requires.0, (lowest_run_finds s.args.used.now _ _ _ _ (sym c.lowest_run.ensures ∙ c.start-1.given.1)).0)
+
+pub mark_run-requires : goal.mark_run-requires
+mark_run-requires c =
+    let s = c.before.before.before.before.before.before.before.before in
+    let run = lowest_run_finds s.args.used.now _ _ _ _ (sym c.lowest_run.ensures ∙ c.start-1.given.1) in
+    (rw (c.mark.ensures, mark-length) (omega (arith, s.requires.0, run.0)), omega (arith, s.requires.0, run.0))
+
+pub returns : goal.returns
+unfolding marked_by
+returns c =
+    (spot_here _ _ _ _ _ c.before.before.before.before.before.first-unused.ensures c.before.before.before.before.if1.false _ c.before.before.first-unused2.ensures _ (sym c.start-1.given.1 ∙ c.lowest_run.ensures), rw (c.mark_run.ensures, c.mark.ensures))

@@ -1,0 +1,26 @@
+-- `room::wipe` meets its contract. The loop's invariant: what is left to zero from here on is the whole (the pools' Sets).
+-- Assumes nothing.
+use mathlib.Core.Path.{◌≡◌, refl, sym, ◌∙◌}
+use Prim.Native.Nat.{◌-◌}
+use native.Mathlib.Omega.{arith}
+use borrow.Author.Rules.{rules}
+use lib.ListN.{length, replicate, length-set}
+use lib.Seq.{sets}
+use Rattle.pool.proofs.Sets.{zeros-step, zeros-end}
+use Rattle.build.proofs.room.wipe.Goals as goal
+
+pub loop-i-init : goal.loop-i-init
+loop-i-init c =
+    let n = c.args.n in
+    let e : n - 0 ≡ n = omega arith in
+    (refl, rw e)
+
+pub loop-i-preserved : goal.loop-i-preserved
+loop-i-preserved c =
+    let l = c.loop-i in
+    (simp length-set l.invariant.0, sym (zeros-step l.list l.i _ c.loop-i-test.true) ∙ l.invariant.1)
+
+pub returns : goal.returns
+returns c =
+    let l = c.loop-i in
+    sym (zeros-end l.list l.i _ c.loop-i-test.false) ∙ l.invariant.1

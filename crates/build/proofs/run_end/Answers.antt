@@ -1,0 +1,35 @@
+-- `build::run_end` meets its contract. The loop's invariant: every key from a up to b goes to the slot of key a. The measure
+-- is what is left of the keys. Assumes nothing.
+use mathlib.Core.Path.{sym, ◌∙◌}
+use Prim.Native.Nat.{◌-◌, ◌<◌, ◌≤◌}
+use borrow.Author.Rules.{rules}
+use lib.ListN.{length}
+use Rattle.build.proofs.Counting.{Shared, shared-first, shared-more}
+use Rattle.build.proofs.run_end.Goals as goal
+
+pub slot_of-s-requires : goal.slot_of-s-requires
+slot_of-s-requires c =
+    (c.requires.1.0, c.requires.0.below c.args.a c.requires.1.1)
+
+pub loop-b-init : goal.loop-b-init
+loop-b-init c =
+    let x = c.args in
+    (search rules, search rules, shared-first x.m x.keys.now x.a)
+
+pub slot_of-requires : goal.slot_of-requires
+slot_of-requires c =
+    (c.requires.1.0, c.requires.0.below c.loop-b.b (search rules))
+
+pub loop-b-preserved : goal.loop-b-preserved
+loop-b-preserved c =
+    let x = c.before.before.before.before.args in (
+      search rules,
+      search rules,
+      shared-more
+          x.m
+          x.keys.now
+          x.a
+          c.loop-b.b
+          c.loop-b.invariant.2
+          (sym c.slot_of.ensures.0 ∙ c.if-slot_of-s.false ∙ c.before.slot_of.ensures.0),
+    )

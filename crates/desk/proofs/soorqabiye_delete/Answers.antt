@@ -1,0 +1,10 @@
+-- `desk::soorqabiye_delete` meets its contract: the call's answer, passed on. Assumes nothing.
+use mathlib.Core.Path.{ap}
+use Rattle.desk.specs.Passing.{pass_change, pass_changing}
+use borrow.Author.Rules.{rules}
+use Rattle.desk.proofs.soorqabiye_delete.Goals as goal
+
+pub returns : goal.returns
+unfolding pass_change pass_changing
+returns c =
+    rw c.passed.ensures (ap pass_change c.delete.ensures)

@@ -1,0 +1,9 @@
+-- `desk::soorqabiye_insert` meets its contract: the call's answer, passed on. Assumes nothing.
+use mathlib.Core.Path.{ap}
+use Rattle.desk.specs.Passing.{pass_insert, pass_inserting}
+use borrow.Author.Rules.{rules}
+use Rattle.desk.proofs.soorqabiye_insert.Goals as goal
+
+pub returns : goal.returns
+unfolding pass_insert pass_inserting
+returns c = rw c.passed_insert.ensures (ap pass_insert c.insert-i.ensures)

@@ -1,0 +1,54 @@
+-- `desk::soorqabiye_load` meets its contract: the call's answer, passed on. Assumes nothing.
+use mathlib.Core.Path.{◌≡◌, sym, ap, ◌∙◌}
+use Rattle.pool.specs.Memory.{Mem}
+use Rattle.store.specs.Calls.{Call}
+use Rattle.store.specs.Loading.{loaded}
+use Rattle.store.specs.declared.Loaded.{Loaded}
+use Rattle.store.specs.declared.Loaded.TheVariants.{WrongSizes, Full, OutOfRange, NoRoom}
+use Rattle.desk.specs.Passing.{pass_load}
+use borrow.Author.Rules.{rules}
+use Rattle.desk.proofs.soorqabiye_load.Goals as goal
+
+-- the answer of the case that came, over the memory left
+passed : (l : Loaded) (m : Mem) (x : Call) → loaded l m ≡ x → (k : Loaded) → l ≡ k → pass_load (loaded k m) ≡ pass_load x
+passed l m x e k f = ap pass_load (ap (λ (y : Loaded). loaded y m) (sym f) ∙ e)
+
+pub returns-in-Done : goal.returns-in-Done
+unfolding pass_load loaded
+returns-in-Done c =
+    let r = c.load in
+    passed _ _ _ r.ensures _ c.h-1.given.1
+
+pub returns-in-WrongSizes : goal.returns-in-WrongSizes
+unfolding pass_load loaded
+returns-in-WrongSizes c =
+    let r = c.load in
+    let e : r.result ≡ WrongSizes = cc in
+    rw c.refused_load.ensures (passed _ _ _ r.ensures WrongSizes e)
+
+pub returns-in-Full : goal.returns-in-Full
+unfolding pass_load loaded
+returns-in-Full c =
+    let r = c.load in
+    let e : r.result ≡ Full = cc in
+    rw c.refused_load-in-Full.ensures (passed _ _ _ r.ensures Full e)
+
+pub returns-in-OutOfRange : goal.returns-in-OutOfRange
+unfolding pass_load loaded
+returns-in-OutOfRange c =
+    let r = c.load in
+    let e : r.result ≡ OutOfRange = cc in
+    rw c.refused_load-in-OutOfRange.ensures (passed _ _ _ r.ensures OutOfRange e)
+
+pub returns-in-NotRising : goal.returns-in-NotRising
+unfolding pass_load loaded
+returns-in-NotRising c =
+    let r = c.load in
+    rw c.refused_load-in-NotRising.ensures (passed _ _ _ r.ensures _ c.place-1.given.1)
+
+pub returns-in-NoRoom : goal.returns-in-NoRoom
+unfolding pass_load loaded
+returns-in-NoRoom c =
+    let r = c.load in
+    let e : r.result ≡ NoRoom = cc in
+    rw c.refused_load-in-NoRoom.ensures (passed _ _ _ r.ensures NoRoom e)

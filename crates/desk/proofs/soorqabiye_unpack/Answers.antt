@@ -1,0 +1,28 @@
+-- `desk::soorqabiye_unpack` meets its contract: the leaf's answer, passed on. Assumes nothing.
+use lib.IntN.{ℤ}
+use mir.Syntax.{w64}
+use mir.Val.{SFits}
+use mir.ValLaws.{to_z-of_z}
+use mathlib.Core.Path.{◌≡◌, sym, ap, ◌∙◌}
+use Rattle.sounding.specs.Studio.{unpacked}
+use Rattle.sounding.specs.declared.Unpacked.{Unpacked}
+use Rattle.sounding.specs.declared.Unpacked.TheVariants.{OutOfRange}
+use Rattle.desk.specs.Passing.{pass_sounding}
+use borrow.Author.Rules.{rules}
+use Rattle.desk.proofs.soorqabiye_unpack.Goals as goal
+
+pub returns-in_default : goal.returns-in_default
+unfolding pass_sounding unpacked
+returns-in_default c =
+    let r = c.unpack in
+    let e : r.result ≡ OutOfRange = cc in
+    ap (λ (p : Unpacked). pass_sounding (unpacked p)) (sym e) ∙ ap pass_sounding r.ensures
+
+pub returns : goal.returns
+unfolding pass_sounding unpacked
+returns c =
+    let r = c.unpack in
+    let s = c.s-1.given.0.0 in
+    let f : SFits w64 s.depth = search rules in
+    ap (λ (d : ℤ). record { number = 0; depth = d; sounding = s.number }) (to_z-of_z w64 s.depth f)
+    ∙ ap (λ (p : Unpacked). pass_sounding (unpacked p)) (sym c.s-1.given.1) ∙ ap pass_sounding r.ensures

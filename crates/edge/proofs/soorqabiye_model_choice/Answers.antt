@@ -1,0 +1,27 @@
+-- `edge::soorqabiye_model_choice` meets its contract: the leaf's answer, passed on. Assumes nothing.
+use mathlib.Core.Path.{◌≡◌, sym, ap, ◌∙◌}
+use Rattle.model.specs.Choice.{chosen, chosen_values}
+use Rattle.model.specs.declared.Chosen.{Chosen}
+use Rattle.model.specs.declared.Chosen.TheVariants.{WrongLength}
+use Rattle.edge.specs.Passing.{pass_model}
+use borrow.Author.Rules.{rules}
+use Rattle.edge.proofs.soorqabiye_model_choice.Goals as goal
+
+pub returns-in-Is : goal.returns-in-Is
+unfolding pass_model chosen chosen_values
+returns-in-Is c =
+    let r = c.model_choice in
+    ap (λ (p : Chosen). pass_model (chosen p)) (sym c.c-1.given.1) ∙ ap pass_model r.ensures
+
+pub returns-in-NotRising : goal.returns-in-NotRising
+unfolding pass_model chosen
+returns-in-NotRising c =
+    let r = c.model_choice in
+    ap (λ (p : Chosen). pass_model (chosen p)) (sym c.place-1.given.1) ∙ ap pass_model r.ensures
+
+pub returns-in-WrongLength : goal.returns-in-WrongLength
+unfolding pass_model chosen
+returns-in-WrongLength c =
+    let r = c.model_choice in
+    let e : r.result ≡ WrongLength = cc in
+    ap (λ (p : Chosen). pass_model (chosen p)) (sym e) ∙ ap pass_model r.ensures

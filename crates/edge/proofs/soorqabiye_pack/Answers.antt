@@ -1,0 +1,24 @@
+-- `edge::soorqabiye_pack` meets its contract: the leaf's answer, passed on. Assumes nothing.
+use mir.Syntax.{w64}
+use mir.ValLaws.{to_z-of_z}
+use Rattle.sounding.specs.Studio.{packed, pack_of}
+use lib.IntN.{ℤ}
+use mathlib.Core.Path.{◌≡◌, sym, ap, ◌∙◌}
+use Rattle.sounding.specs.declared.Packed.{Packed}
+use Rattle.sounding.specs.declared.Packed.TheVariants.{OutOfRange}
+use Rattle.edge.specs.Passing.{pass_key}
+use borrow.Author.Rules.{rules}
+use Rattle.edge.proofs.soorqabiye_pack.Goals as goal
+
+pub returns-in_default : goal.returns-in_default
+unfolding pass_key packed
+returns-in_default c =
+    let r = c.pack in
+    let e : r.result ≡ OutOfRange = cc in
+    ap (λ (p : Packed). pass_key (packed p)) (sym e) ∙ ap pass_key r.ensures ∙ ap (λ (d : ℤ). pass_key (pack_of d c.args.number)) (to_z-of_z w64 c.args.depth c.ranges.depth)
+
+pub returns : goal.returns
+unfolding pass_key packed
+returns c =
+    let r = c.pack in
+    ap (λ (p : Packed). pass_key (packed p)) (sym c.key-1.given.1) ∙ ap pass_key r.ensures ∙ ap (λ (d : ℤ). pass_key (pack_of d c.args.number)) (to_z-of_z w64 c.args.depth c.ranges.depth)

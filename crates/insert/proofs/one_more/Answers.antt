@@ -1,0 +1,6 @@
+-- `insert::one_more` meets its contract. Assumes nothing.
+use borrow.Author.Rules.{rules}
+use Rattle.insert.proofs.one_more.Goals as goal
+
+pub returns : goal.returns
+returns c = rw (c.with_count.ensures, c.with_root.ensures)

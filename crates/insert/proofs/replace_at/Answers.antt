@@ -1,0 +1,18 @@
+-- `insert::replace_at` meets its contract: the two-key node goes, then the slot above and the counters are stored. Assumes nothing.
+use native.Mathlib.Omega.{arith}
+use Rattle.counters.proofs.Traces.{on_path_stays}
+use Rattle.insert.proofs.Standings.{replaced-root, replaced-below}
+use borrow.Author.Rules.{rules}
+use Rattle.insert.proofs.replace_at.Goals as goal
+
+pub hang-requires : goal.hang-requires
+hang-requires c = (λ e. omega (arith, c.requires.1.1.0.above-slot e, c.drop_pair.auto.1.1.1.0), c.requires.1.1.1)
+
+pub raise-requires : goal.raise-requires
+raise-requires c = (c.requires.1.1.0.within, on_path_stays _ _ _ (let e = c.drop_pair.auto.1.1.0 in rw e) c.requires.1.1.0.on)
+
+pub returns-then-at-lt1 : goal.returns-then-at-lt1
+returns-then-at-lt1 c = replaced-root _ _ _ _ _ _ c.args.path _ _ _ _ _ _ _ _ _ _ _ c.requires.1.1.0.within c.drop_pair.ensures c.hang.ensures c.raise.ensures c.if-at-lt1.true c.done.ensures
+
+pub returns : goal.returns
+returns c = replaced-below _ _ _ _ _ _ c.args.path _ _ _ _ _ _ _ _ _ _ _ c.requires.1.1.0.within c.drop_pair.ensures c.hang.ensures c.raise.ensures c.if-at-lt1.false c.done-2.ensures

@@ -1,0 +1,7 @@
+-- `insert::stand` meets its contract. Assumes nothing.
+use Rattle.insert.proofs.Standings.{stands}
+use borrow.Author.Rules.{rules}
+use Rattle.insert.proofs.stand.Goals as goal
+
+pub returns : goal.returns
+returns c = stands _ _ _ _ _ _ c.args.path _ _ _ _ _ _ _ _ c.done.ensures c.settle_slot.ensures c.raise.ensures

@@ -1,0 +1,11 @@
+-- `lines::put` meets its contract. Assumes nothing.
+use mathlib.Core.Path.{refl}
+use lib.ListN.{length-set}
+use Rattle.lines.specs.Lines.{write}
+use borrow.Author.Rules.{rules}
+use Rattle.lines.proofs.put.Lts as lts
+use Rattle.lines.proofs.put.Goals as goal
+
+pub returns : goal.returns
+unfolding write
+returns c = (refl, (refl, length-set c.args.out.now c.args.at c.args.b))

@@ -1,0 +1,17 @@
+
+use mathlib.Core.Path.{◌≡◌, refl}
+use Prim.Native.Nat.{◌+◌, ◌*◌}
+use lib.ListN.{get_or, drop}
+use Rattle.laws.specs.Bytes.{little_endian}
+use mathlib.Core.Path.{sym}
+use native.Mathlib.Omega.{arith}
+use Rattle.lines.proofs.Endian.{two_bytes}
+use borrow.Author.Rules.{rules}
+use Rattle.lines.proofs.two.Lts as lts
+use Rattle.lines.proofs.two.Goals as goal
+
+pub returns : goal.returns
+returns c = let a = c.wide-a.ensures in
+    let b = c.wide-b.ensures in
+    let e : little_endian 2 (drop c.args.p c.args.bytes.now) ≡ get_or c.args.bytes.now c.args.p 0 + 256 * get_or c.args.bytes.now (c.args.p + 1) 0 = two_bytes _ c.args.p (omega (arith, c.requires)) in
+    (rw (e, a.0, b.0), omega (arith, a.1, b.1))

@@ -1,0 +1,21 @@
+-- `listing::count` meets its contract. The loop's invariant: with what is left the count is that of all (proofs/Counts).
+-- The measure is how many items are left. Assumes nothing.
+use mathlib.Core.Path.{◌≡◌, sym, ap, ◌∙◌}
+use native.Mathlib.Omega.{arith}
+use borrow.Author.Rules.{rules}
+use lib.ListN.{length}
+use Rattle.pool.specs.Memory.{mem}
+use Rattle.listing.specs.Listing.{listing, left, count_from}
+use Rattle.listing.proofs.Counts.{Counting, counting_first, counting_full, counting_next, counting_less, counting_broken, counting_end}
+use Rattle.listing.proofs.Landings.{held-stands}
+use Rattle.walk.specs.Walks.{longest_path}
+use Rattle.walk.specs.declared.Item.TheVariants.{Broken, End}
+use Rattle.listing.proofs.count.Given as goal
+
+abbrev pub invariant-loop-slot : goal.invariant-loop-slot
+invariant-loop-slot l =
+    Counting l.span (mem l.nodes l.slots l.used) l.above l.u l.v l.room (count_from 0 (listing l.u l.v l.room (left l.span (mem l.nodes l.slots l.used) l.above l.initial.next l.initial.records l.initial.places))) l.n l.next l.records l.places
+    × ((length l.records ≡ longest_path) × (length l.places ≡ longest_path))
+
+abbrev pub decreases-loop-slot : goal.decreases-loop-slot
+decreases-loop-slot l = length (left l.span (mem l.nodes l.slots l.used) l.above l.next l.records l.places)

@@ -1,0 +1,19 @@
+-- `listing::to_listed` meets its contract. The loop's invariant: what is left from here lists what all that was left does, since an
+-- element outside u to v adds nothing (proofs/Landings). The measure is how many items are left. Assumes nothing.
+use mathlib.Core.Path.{◌≡◌, refl, sym, ◌∙◌}
+use native.Mathlib.Omega.{arith}
+use borrow.Author.Rules.{rules}
+use lib.ListN.{length}
+use Rattle.pool.specs.Memory.{mem}
+use Rattle.listing.specs.Listing.{left}
+use Rattle.listing.proofs.Landings.{Reached, reached_first, reached_next, held-stands, one_shorter, lands_in, lands_broken, lands_end}
+use Rattle.walk.specs.declared.Item.TheVariants.{Broken, End}
+use Rattle.listing.proofs.to_listed.Given as goal
+
+abbrev pub invariant-loop-k : goal.invariant-loop-k
+invariant-loop-k l =
+    Reached l.span (mem l.nodes l.slots l.used) l.above l.u l.v (left l.span (mem l.nodes l.slots l.used) l.above l.initial.next l.initial.records l.initial.places) l.next l.records l.places
+    × ((length l.records ≡ length l.initial.records) × (length l.places ≡ length l.initial.places))
+
+abbrev pub decreases-loop-k : goal.decreases-loop-k
+decreases-loop-k l = length (left l.span (mem l.nodes l.slots l.used) l.above l.next l.records l.places)

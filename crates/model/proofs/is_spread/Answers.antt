@@ -1,0 +1,31 @@
+-- `model::is_spread` meets its contract. The loop's invariant: the table has the counts of the keys passed, none above t.
+-- Assumes nothing.
+use Prim.Native.Nat.{◌-◌, ◌≤◌}
+use native.Mathlib.Omega.{arith}
+use lib.ListN.{length}
+use Rattle.model.proofs.Counts.{Counted, counted_none, counted_more, counted_full, counted_all}
+use borrow.Author.Rules.{rules}
+use Rattle.model.proofs.is_spread.Goals as goal
+
+pub loop-i-init : goal.loop-i-init
+loop-i-init c = (omega arith, counted_none _ _ _)
+
+pub slot_of-s-requires : goal.slot_of-s-requires
+slot_of-s-requires c =
+    (c.requires.0, c.requires.1.below c.loop-i.i (omega arith))
+
+pub returns-then-t-c : goal.returns-then-t-c
+returns-then-t-c c =
+    let l = c.loop-i in
+    let r = c.slot_of-s in
+    counted_full _ _ _ l.i _ l.invariant.1 r.result (omega arith) r.ensures.0 (omega arith) r.ensures.1 (omega arith)
+
+pub loop-i-preserved : goal.loop-i-preserved
+loop-i-preserved c =
+    let l = c.loop-i in
+    let r = c.slot_of-s in
+    (omega arith, counted_more _ _ _ l.i _ l.invariant.1 r.result (omega arith) r.ensures.0 (omega arith) (omega arith))
+
+pub returns : goal.returns
+returns c =
+    counted_all _ _ _ _ _ c.loop-i.invariant.1 c.loop-i-test.false c.requires.0.most

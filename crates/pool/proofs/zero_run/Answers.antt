@@ -1,0 +1,25 @@
+-- `pool::zero_run` meets its contract. The loop's invariant: what is left to zero from here to the run's end is the whole
+-- (proofs/Sets, RunStores). Assumes nothing.
+use mathlib.Core.Path.{◌≡◌, refl, sym, ◌∙◌}
+use Prim.Native.Nat.{◌-◌, ◌≤◌}
+use native.Mathlib.Omega.{arith}
+use borrow.Author.Rules.{rules}
+use lib.ListN.{length, replicate, length-set}
+use lib.Seq.{sets}
+use Rattle.pool.specs.Writing.{zero_run}
+use Rattle.pool.proofs.RunStores.{zero_run-start}
+use Rattle.pool.proofs.Sets.{zeros-step, zeros-end}
+use Rattle.pool.proofs.zero_run.Goals as goal
+
+pub loop-i-init : goal.loop-i-init
+loop-i-init c = (omega arith, refl, zero_run-start _ _ _)
+
+pub loop-i-preserved : goal.loop-i-preserved
+loop-i-preserved c =
+    let l = c.loop-i in
+    (omega arith, simp length-set l.invariant.1, sym (zeros-step l.slots l.i _ c.loop-i-test.true) ∙ l.invariant.2)
+
+pub returns : goal.returns
+returns c =
+    let l = c.loop-i in
+    sym (zeros-end l.slots l.i _ c.loop-i-test.false) ∙ l.invariant.2

@@ -1,0 +1,11 @@
+-- `pairs::build_two` meets its contract: two rising keys are built as every list is. Assumes nothing.
+use Rattle.rebuild.proofs.Judging.{pooled_sized, hinted_first}
+use Rattle.rebuild.proofs.Conflicts.{two_rise}
+use native.Mathlib.Omega.{arith}
+use mathlib.Core.Path.{refl}
+use borrow.Author.Rules.{rules}
+use Rattle.rebuild.proofs.pairs.build_two.Goals as goal
+
+pub build_node-g-requires : goal.build_node-g-requires
+build_node-g-requires c =
+    (two_rise _ _ c.requires.1.0 c.requires.1.1, (refl, (omega arith, (pooled_sized _ c.requires.0, hinted_first _))))

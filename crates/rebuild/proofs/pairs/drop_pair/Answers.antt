@@ -1,0 +1,11 @@
+-- `pairs::drop_pair` meets its contract. Assumes nothing.
+use Rattle.rebuild.proofs.Conflicts.{pair_stays, pair_goes}
+use borrow.Author.Tests.{not-true, not-false}
+use borrow.Author.Rules.{rules}
+use Rattle.rebuild.proofs.pairs.drop_pair.Goals as goal
+
+pub returns-then-not-conflict : goal.returns-then-not-conflict
+returns-then-not-conflict c = pair_stays _ _ _ (not-true _ c.if-not-conflict.true)
+
+pub returns : goal.returns
+returns c = pair_goes _ _ _ _ (not-false _ c.if-not-conflict.false) c.release.ensures

@@ -1,0 +1,42 @@
+-- `session::move_to_front` meets its contract. The invariant: the bytes moved so far stand in front (proofs/Moves). Assumes nothing.
+use Prim.Native.Nat.{◌-◌, ◌≤◌}
+use mathlib.Core.Path.{refl}
+use native.Mathlib.Omega.{arith}
+use Rattle.session.proofs.Moves.{Moved, moved_next, moved_all}
+use Rattle.session.proofs.move_to_front.Lts as lts
+use Rattle.session.proofs.move_to_front.Goals as goal
+
+pub overflow_sub-n : goal.overflow_sub-n
+overflow_sub-n c = omega arith
+
+pub loop-i-init : goal.loop-i-init
+loop-i-init c = ((refl, (refl, refl)), omega arith)
+
+pub overflow_add-input : goal.overflow_add-input
+overflow_add-input c = omega (arith, c.loop-i.invariant)
+
+pub bounds-input-from : goal.bounds-input-from
+bounds-input-from c = omega (arith, c.loop-i.invariant)
+
+pub bounds-input-i : goal.bounds-input-i
+bounds-input-i c = omega (arith, c.loop-i.invariant)
+
+pub overflow_add-i : goal.overflow_add-i
+overflow_add-i c = omega arith
+
+pub loop-i-smaller : goal.loop-i-smaller
+loop-i-smaller c = omega arith
+
+pub loop-i-preserved : goal.loop-i-preserved
+loop-i-preserved c = let a = c.args in
+    let l = c.loop-i in
+    (moved_next a.input.now a.from l.input l.i l.invariant.0 (omega arith), omega arith)
+
+pub returns : goal.returns
+returns c = let a = c.args in
+    let l = c.loop-i in
+    moved_all a.input.now a.from a.to l.input l.i l.invariant.0 (omega arith) (omega arith) (omega arith) (omega arith)
+
+-- MISS
+-- same_length : tie.Need-same-length invariant-loop decreases-loop
+-- same_length c = c.before.loop.invariant.0.1.1

@@ -1,0 +1,41 @@
+-- `store::load_afresh` meets its contract: the pools are zeros, so the build is the definition's, and it has room (proofs/Loads).
+-- Assumes nothing.
+use mathlib.Core.Path.{◌≡◌, ◌∙◌, ap}
+use native.Mathlib.Omega.{arith}
+use Rattle.build.specs.Building.{build}
+use Rattle.build.specs.declared.Built.TheVariants.{NoRoom}
+use Rattle.pool.specs.Memory.{Mem}
+use Rattle.walk.specs.Walks.{longest_path}
+use Rattle.store.proofs.Loads.{empty-sized, load-done, load_cannot}
+use borrow.Author.Rules.{rules}
+use Rattle.store.proofs.load_afresh.Goals as goal
+
+pub build_node-g-requires : goal.build_node-g-requires
+build_node-g-requires c =
+    let l = c.requires.0 in (
+      l.rising,
+      (
+        l.same,
+        (
+          l.few,
+          (
+            empty-sized 0 _ _ _ l _ c.empty_pools.ensures,
+            record { record-within = omega arith; slot-within = omega arith; records-used = λ r h. absurd (omega arith); slots-used = λ q h. absurd (omega arith) },
+          ),
+        ),
+      ),
+    )
+
+pub returns-in-At : goal.returns-in-At
+returns-in-At c =
+    let g = c.build_node-g in
+    load-done _ _ _ _ c.requires.0 c.requires.1 g.result.built _
+    (g.ensures.is ∙ ap (λ (m : Mem). build longest_path c.args.keys.now c.args.payloads.now m) c.empty_pools.ensures)
+    _ _ c.b-1.given.1 c.new.ensures
+
+pub returns-in-NoRoom : goal.returns-in-NoRoom
+returns-in-NoRoom c =
+    let g = c.build_node-g in
+    let e : g.result.built ≡ NoRoom = cc in
+    absurd (load_cannot 0 _ _ _ c.requires.0 c.requires.1 g.result.built _
+    (g.ensures.is ∙ ap (λ (m : Mem). build longest_path c.args.keys.now c.args.payloads.now m) c.empty_pools.ensures) e)

@@ -1,0 +1,11 @@
+-- `walk::reading::first_item` meets its contract: the first event, and from it on (proofs/Siftings). Assumes nothing.
+use mathlib.Core.List.{[]}
+use Rattle.walk.proofs.Siftings.{finds_of}
+use borrow.Author.Rules.{rules}
+use Rattle.walk.proofs.reading.first_item.Goals as goal
+
+pub find_item-requires : goal.find_item-requires
+find_item-requires c = (c.requires.0, ((c.start-first.ensures [] []).stands, c.requires.1.1))
+
+pub returns : goal.returns
+returns c = finds_of (c.start-first.ensures _ _).tells c.find_item.ensures

@@ -1,0 +1,89 @@
+-- `walk::reading::next` meets its contract. The loop goes up from node to node; its invariant: what is left from here is what was
+-- left where the step began (proofs/Readings). The measure is the depth. Assumes nothing.
+use mathlib.Core.Path.{◌≡◌, refl, sym, ◌∙◌}
+use Prim.Native.Nat.{◌-◌}
+use native.Mathlib.Omega.{arith}
+use borrow.Author.Rules.{rules}
+use lib.ListN.{length}
+use Rattle.pool.proofs.Nodes.{good-node}
+use Rattle.pool.specs.Memory.{mem}
+use Rattle.walk.specs.Cursors.{remains}
+use Rattle.walk.specs.Moves.{below, Standing}
+use Rattle.walk.proofs.Readings.{slots-inside, moves_from, skipped, goes_up, meets_end, meets_broken-above}
+use Rattle.walk.proofs.reading.next.Goals as goal
+
+pub loop-n-init : goal.loop-n-init
+loop-n-init c = (c.requires.1.0, ((refl, refl), refl))
+
+pub skip_null-at-requires : goal.skip_null-at-requires
+skip_null-at-requires c = slots-inside _ _ _ _ c.loop-n.invariant.0
+
+pub meet-requires : goal.meet-requires
+meet-requires c =
+    let p = c.requires in
+    let l = c.loop-n.invariant in
+    (p.0, (record { reads = l.0.reads; ends = l.0.ends; deep = l.0.deep }, (c.if-at-end.true, (c.skip_null-at.ensures.stops c.if-at-end.true, (omega (arith, l, p.1.1), omega (arith, l, p.1.1))))))
+
+pub returns-then-at-end : goal.returns-then-at-end
+returns-then-at-end c =
+    let l = c.loop-n in
+    let k = c.skip_null-at in
+    moves_from (skipped _ _ _ l.c _ _ k.result k.ensures ∙ l.invariant.1.1) c.meet.ensures
+
+pub returns-then-c-lt1 : goal.returns-then-c-lt1
+returns-then-c-lt1 c =
+    let l = c.loop-n in
+    let k = c.skip_null-at in
+    moves_from (skipped _ _ _ l.c _ _ k.result k.ensures ∙ l.invariant.1.1) (meets_end _ _ _ _ _ _ c.if-at-end.false c.if-c-lt1.true _)
+
+pub bounds-records-depth : goal.bounds-records-depth
+bounds-records-depth c = omega (arith, c.loop-n.invariant, c.requires.1.1)
+
+pub past_last-end-requires : goal.past_last-end-requires
+past_last-end-requires c =
+    let g = good-node _ _ _ (sym c.node_at.ensures ∙ c.n-in-Good-1.given.1) in
+    (g.range, c.requires.0)
+
+pub bounds-places-depth : goal.bounds-places-depth
+bounds-places-depth c = omega (arith, c.loop-n.invariant, c.requires.1.1)
+
+pub loop-n-preserved : goal.loop-n-preserved
+loop-n-preserved c =
+    let l = c.loop-n in
+    let k = c.skip_null-at in
+    let e = sym c.node_at.ensures ∙ c.n-in-Good-1.given.1 in
+    let q = c.past_last-end.ensures in (
+      record { reads = e; ends = q; deep = omega (arith, l.invariant.0.deep) },
+      (l.invariant.1.0, goes_up _ _ _ _ _ _ c.if-at-end.false l.invariant.0.deep c.if-c-lt1.false _ refl _ _ e q ∙ skipped _ _ _ l.c _ _ k.result k.ensures ∙ l.invariant.1.1),
+    )
+
+pub returns-in-Broken : goal.returns-in-Broken
+returns-in-Broken c =
+    let l = c.loop-n in
+    let k = c.skip_null-at in
+    let e = sym c.node_at.ensures ∙ c.b-1.given.1 in
+    moves_from (skipped _ _ _ l.c _ _ k.result k.ensures ∙ l.invariant.1.1) (meets_broken-above _ _ _ _ _ _ c.if-at-end.false l.invariant.0.deep c.if-c-lt1.false _ refl _ _ e)
+
+-- MISS
+-- same_length : tie.Need-same-length invariant-loop decreases-loop
+-- same_length c = c.before.before.before.before.meet.auto.1.1.1.1.1.1.0 ∙ c.before.before.before.before.before.before.before.before.before.before.loop.invariant.1.0.0
+
+-- MISS
+-- same-length-2 : tie.Need-same-length-2 invariant-loop decreases-loop
+-- same-length-2 c = c.before.before.before.before.meet.auto.1.1.1.1.1.1.1.0 ∙ c.before.before.before.before.before.before.before.before.before.before.loop.invariant.1.0.1
+
+-- MISS
+-- same-length-3 : tie.Need-same-length-3 invariant-loop decreases-loop
+-- same-length-3 c = c.before.before.before.before.before.loop.invariant.1.0.0
+
+-- MISS
+-- same-length-4 : tie.Need-same-length-4 invariant-loop decreases-loop
+-- same-length-4 c = c.before.before.before.before.before.loop.invariant.1.0.1
+
+-- MISS
+-- same-length-5 : tie.Need-same-length-5 invariant-loop decreases-loop
+-- same-length-5 c = c.before.before.before.before.before.before.before.before.before.before.before.loop.invariant.1.0.0
+
+-- MISS
+-- same-length-6 : tie.Need-same-length-6 invariant-loop decreases-loop
+-- same-length-6 c = c.before.before.before.before.before.before.before.before.before.before.before.loop.invariant.1.0.1

@@ -1,0 +1,21 @@
+-- `walk::reading::next` meets its contract. The loop goes up from node to node; its invariant: what is left from here is what was
+-- left where the step began (proofs/Readings). The measure is the depth. Assumes nothing.
+use mathlib.Core.Path.{◌≡◌, refl, sym, ◌∙◌}
+use Prim.Native.Nat.{◌-◌}
+use native.Mathlib.Omega.{arith}
+use borrow.Author.Rules.{rules}
+use lib.ListN.{length}
+use Rattle.pool.proofs.Nodes.{good-node}
+use Rattle.pool.specs.Memory.{mem}
+use Rattle.walk.specs.Cursors.{remains}
+use Rattle.walk.specs.Moves.{below, Standing}
+use Rattle.walk.proofs.Readings.{slots-inside, moves_from, skipped, goes_up, meets_end, meets_broken-above}
+use Rattle.walk.proofs.reading.next.Given as goal
+
+abbrev pub invariant-loop-n : goal.invariant-loop-n
+invariant-loop-n l =
+    Standing l.span (mem l.nodes l.slots l.used) l.above l.c × (((length l.records ≡ length l.initial.records) × (length l.places ≡ length l.initial.places))
+    × (remains l.span (mem l.nodes l.slots l.used) (below l.above l.c) l.c l.records l.places ≡ remains l.span (mem l.nodes l.slots l.used) (below l.above l.initial.c) l.initial.c l.initial.records l.initial.places))
+
+abbrev pub decreases-loop-n : goal.decreases-loop-n
+decreases-loop-n l = l.c.depth

@@ -1,0 +1,42 @@
+-- `walk::step_in` meets its contract: the key found at once, or what the slot says (proofs/Walks). Assumes nothing.
+use mathlib.Core.Path.{◌≡◌, refl, sym, ◌∙◌}
+use native.Mathlib.Omega.{arith}
+use Rattle.pool.specs.declared.Slot.TheVariants.{Null}
+use Rattle.walk.specs.Walks.{step_in}
+use Rattle.walk.proofs.Walks.{step-says, step-found}
+use borrow.Author.Rules.{rules}
+use Rattle.walk.proofs.step_in.Goals as goal
+
+pub returns-then-slots-q : goal.returns-then-slots-q
+returns-then-slots-q c =
+    let r = c.slot_of-j in
+    step-found _ _ _ r.result _ r.ensures.0 refl (omega arith) c.if-slots-q.true
+
+pub returns-in-Null : goal.returns-in-Null
+unfolding step_in
+returns-in-Null c =
+    let r = c.slot_of-j in
+    let s = c.slot_at in
+    let e : s.result ≡ Null = cc in
+    step-says _ _ _ r.result _ r.ensures.0 refl Null (sym e ∙ s.ensures)
+
+pub returns-in-Data : goal.returns-in-Data
+unfolding step_in
+returns-in-Data c =
+    let r = c.slot_of-j in
+    let s = c.slot_at in
+    step-says _ _ _ r.result _ r.ensures.0 refl _ (sym c.k-1.given.1 ∙ s.ensures)
+
+pub returns-in-Child : goal.returns-in-Child
+unfolding step_in
+returns-in-Child c =
+    let r = c.slot_of-j in
+    let s = c.slot_at in
+    step-says _ _ _ r.result _ r.ensures.0 refl _ (sym c.c-1.given.1 ∙ s.ensures)
+
+pub returns-in-Broken : goal.returns-in-Broken
+unfolding step_in
+returns-in-Broken c =
+    let r = c.slot_of-j in
+    let s = c.slot_at in
+    step-says _ _ _ r.result _ r.ensures.0 refl _ (sym c.b-1.given.1 ∙ s.ensures)

@@ -1,0 +1,44 @@
+-- `walk::trace` meets its contract. The loop's invariant: what is left to follow from here is the whole walk. Assumes nothing.
+use mathlib.Core.Path.{◌≡◌, sym, ◌∙◌}
+use Prim.Native.Nat.{◌-◌, ◌≤◌}
+use native.Mathlib.Omega.{arith}
+use lib.ListN.{length, length-set}
+use Rattle.pool.proofs.Nodes.{good-node}
+use Rattle.pool.specs.Memory.{mem}
+use Rattle.walk.specs.Walks.{longest_path, trace_of}
+use Rattle.walk.proofs.Walks.{step-good, step-broken, push, trace_from, trace-start, trace_down, trace_stop, trace_spent, empty-len, empty-nodes}
+use borrow.Author.Rules.{rules}
+use Rattle.walk.proofs.trace.Goals as goal
+
+pub loop-path-init : goal.loop-path-init
+loop-path-init c = (rw (empty-len _ c.new-path.ensures) (omega arith), empty-nodes _ c.new-path.ensures, trace-start _ _ _ _ c.new-path.ensures)
+
+pub returns-in-Broken : goal.returns-in-Broken
+unfolding push
+returns-in-Broken c =
+    let l = c.loop-path in
+    trace_stop _ _ _ _ _ l.invariant.2 _ (omega arith) (step-broken _ _ _ _ (sym c.node_at.ensures ∙ c.b-1.given.1))
+
+pub step_in-requires : goal.step_in-requires
+step_in-requires c =
+    let g = good-node _ _ _ (sym c.node_at.ensures ∙ c.n-1.given.1) in
+    (c.requires, (g.range, g.fits))
+
+pub loop-path-preserved : goal.loop-path-preserved
+unfolding push
+loop-path-preserved c =
+    let l = c.loop-path in
+    let s = step-good _ _ _ _ _ (sym c.node_at.ensures ∙ c.n-1.given.1) c.step_in.ensures in
+    (omega arith, simp length-set l.invariant.1, trace_down _ _ _ _ _ l.invariant.2 _ (omega arith) (sym c.c-1.given.1 ∙ s))
+
+pub returns-in-Stop : goal.returns-in-Stop
+unfolding push
+returns-in-Stop c =
+    let l = c.loop-path in
+    let s = step-good _ _ _ _ _ (sym c.node_at.ensures ∙ c.n-1.given.1) c.step_in.ensures in
+    trace_stop _ _ _ _ _ l.invariant.2 _ (omega arith) (sym c.end-1.given.1 ∙ s)
+
+pub returns : goal.returns
+returns c =
+    let l = c.loop-path in
+    trace_spent _ _ _ _ _ l.invariant.2 (omega arith)
