@@ -12,12 +12,12 @@ memory s = mem s.args.nodes.now s.args.slots.now s.args.used.now
 pub find_place-p-requires : goal.find_place-p-requires
 find_place-p-requires c =
     let e = c.model_of-c.ensures in
-    (c.requires.1.1.0, (c.requires.1.1.1, chosen_is_in_range c.args.keys.now c.requires.0 _ e))
+    record { sized = c.requires.sized; hinted = c.requires.hinted; in_range = chosen_is_in_range c.args.keys.now c.requires.rising _ e }
 
 pub place_node-requires : goal.place_node-requires
 place_node-requires c =
     let within = found_within (memory s) c.args.keys.now _ c.model_of-c.ensures _ c.find_place-p.ensures _ c.p-1.given.1 in
-    (c.requires.1.1.0, (within.0, within.1))
+    record { sized = c.requires.sized; r_bound = within.0; l_bound = within.1 }
 
 pub returns-in-Here : goal.returns-in-Here
 returns-in-Here c =

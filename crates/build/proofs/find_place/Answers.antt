@@ -14,7 +14,7 @@ memory s = mem s.args.nodes.now s.args.slots.now s.args.used.now
 
 pub first_unused-record-requires : goal.first_unused-record-requires
 first_unused-record-requires c =
-    (omega (arith, c.requires.0), omega (arith, c.requires.0), c.requires.1.0.record-within, hinted_records (memory s) c.args.hint c.requires.1.0)
+    (omega (arith, c.requires.sized), omega (arith, c.requires.sized), c.requires.hinted.record-within, hinted_records (memory s) c.args.hint c.requires.hinted)
 
 pub returns-then-records-record : goal.returns-then-records-record
 returns-then-records-record c =
@@ -22,9 +22,8 @@ returns-then-records-record c =
 
 pub lowest_run-requires : goal.lowest_run-requires
 lowest_run-requires c =
-    let f = c.first_unused-first in
-    let first = first_unused_at c.args.used.now _ _ f.result (sym f.ensures) in
-    (omega (arith, c.requires.0), omega (arith, c.requires.0), omega (arith, c.requires.1.1), first.0, first.1)
+    let first = first_unused_at c.args.used.now _ _ c.first_unused-first.result (sym c.first_unused-first.ensures) in
+    (omega (arith, c.requires.sized), omega (arith, c.requires.sized), omega (arith, c.requires.in_range), first.0, first.1)
 
 pub returns-in-Nowhere : goal.returns-in-Nowhere
 returns-in-Nowhere c =

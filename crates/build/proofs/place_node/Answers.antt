@@ -7,7 +7,4 @@ pub returns : goal.returns
 unfolding place_node
 returns c =
     let put = c.put_node in
-    let zero = c.zero_run in
-    let mark = c.mark in
-    let run = c.mark_run in
-    rw (put.ensures, zero.ensures, run.ensures, mark.ensures)
+    rw (put.ensures, c.zero_run.ensures, c.mark_run.ensures, c.mark.ensures)

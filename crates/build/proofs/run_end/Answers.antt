@@ -9,16 +9,15 @@ use Rattle.build.proofs.run_end.Goals as goal
 
 pub slot_of-s-requires : goal.slot_of-s-requires
 slot_of-s-requires c =
-    (c.requires.1.0, c.requires.0.below c.args.a c.requires.1.1)
+    record { in_range = c.requires.in_range; x_lt_value_bound = c.requires.rising.below c.args.a c.requires.a_in_bounds }
 
 pub loop-b-init : goal.loop-b-init
 loop-b-init c =
-    let x = c.args in
-    (search rules, search rules, shared-first x.m x.keys.now x.a)
+    (search rules, search rules, shared-first c.args.m c.args.keys.now c.args.a)
 
 pub slot_of-requires : goal.slot_of-requires
 slot_of-requires c =
-    (c.requires.1.0, c.requires.0.below c.loop-b.b (search rules))
+    record { in_range = c.requires.in_range; x_lt_value_bound = c.requires.rising.below c.loop-b.b (search rules) }
 
 pub loop-b-preserved : goal.loop-b-preserved
 loop-b-preserved c =

@@ -19,15 +19,13 @@ due_node-requires c = c.requires.within _ c.loop-place-test.true
 
 pub returns-then-due_node : goal.returns-then-due_node
 returns-then-due_node c =
-    let l = c.loop-place in
     let fits : c.args.t2.len ≤ length c.args.t2.nodes = rw (sized s) c.requires.short in
-    due-here _ _ c.args.t2.nodes c.args.t2.len l.place l.invariant.1 (omega arith) fits (sym c.if-due_node.true ∙ c.due_node.ensures)
+    due-here _ _ c.args.t2.nodes c.args.t2.len c.loop-place.place c.loop-place.invariant.1 (omega arith) fits (sym c.if-due_node.true ∙ c.due_node.ensures)
 
 pub loop-place-preserved : goal.loop-place-preserved
 loop-place-preserved c =
-    let l = c.loop-place in
     let fits : c.args.t2.len ≤ length c.args.t2.nodes = rw (sized s) c.requires.short in
-    (omega arith, due_later _ _ c.args.t2.nodes c.args.t2.len l.place l.invariant.1 (omega arith) fits (sym c.if-due_node.false ∙ c.due_node.ensures))
+    (omega arith, due_later _ _ c.args.t2.nodes c.args.t2.len c.loop-place.place c.loop-place.invariant.1 (omega arith) fits (sym c.if-due_node.false ∙ c.due_node.ensures))
 
 pub returns : goal.returns
 returns c = due_nowhere _ _ _ c.args.t2.len c.loop-place.place c.loop-place.invariant.1 (omega arith) c.loop-place.invariant.0

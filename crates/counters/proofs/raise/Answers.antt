@@ -16,17 +16,15 @@ sized c = sym (length-map c.args.t2.nodes (λ v. v)) ∙ c.well-formed.1.0.1.1.0
 
 pub raise_node-requires : goal.raise_node-requires
 raise_node-requires c =
-    let l = c.loop-i in
-    rw l.invariant.1 (c.requires.1.within l.i (omega arith))
+    rw c.loop-i.invariant.1 (c.requires.on_path.within c.loop-i.i (omega arith))
 
 pub loop-i-preserved : goal.loop-i-preserved
 loop-i-preserved c =
-    let l = c.loop-i in
-    let fits : c.args.n ≤ length c.args.t2.nodes = rw (sized s) (omega (arith, c.requires.1.short)) in
+    let fits : c.args.n ≤ length c.args.t2.nodes = rw (sized s) (omega (arith, c.requires.on_path.short)) in
     let e = c.raise_node.ensures in (
       omega arith,
-      rw e (length-raise_node _ _ _ ∙ l.invariant.1),
-      rw e (raise-one l.nodes _ c.args.t2.nodes c.args.n l.i _ l.invariant.2 (omega arith) fits),
+      rw e (length-raise_node _ _ _ ∙ c.loop-i.invariant.1),
+      rw e (raise-one c.loop-i.nodes _ c.args.t2.nodes c.args.n c.loop-i.i _ c.loop-i.invariant.2 (omega arith) fits),
     )
 
 pub returns : goal.returns

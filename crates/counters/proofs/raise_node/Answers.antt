@@ -7,7 +7,7 @@ use borrow.Author.Rules.{rules}
 use Rattle.counters.proofs.raise_node.Goals as goal
 
 pub returns-then-not-conflict : goal.returns-then-not-conflict
-returns-then-not-conflict c = raise_elements_stored _ _ _ _ c.one_more.ensures (not-true _ c.if-not-conflict.true)
+returns-then-not-conflict c = raise_elements_stored _ _ _ _ c.one_more.ensures c.if-not-conflict.true
 
 pub bounds-nodes-at-3 : goal.bounds-nodes-at-3
 bounds-nodes-at-3 c = simp length-set (omega arith)
@@ -16,4 +16,4 @@ pub bounds-nodes-at-4 : goal.bounds-nodes-at-4
 bounds-nodes-at-4 c = simp length-set (omega arith)
 
 pub returns : goal.returns
-returns c = raise_both_stored _ _ _ _ c.one_more.ensures _ c.one_more-2.ensures (not-false _ c.if-not-conflict.false)
+returns c = raise_both_stored _ _ _ _ c.one_more.ensures _ c.one_more-2.ensures c.if-not-conflict.false

@@ -27,20 +27,17 @@ returns-in-NotThere c = rw c.new-in-NotThere.ensures (delete_by _ _ _ _ (sym c.v
 pub returns-in-OutOfRange : goal.returns-in-OutOfRange
 unfolding changed
 returns-in-OutOfRange c =
-    let r = c.find in
-    let e : r.result ≡ OutOfRange = cc in
-    rw c.new-in-OutOfRange.ensures (delete_by _ _ _ OutOfRange (sym e ∙ r.ensures))
+    let e : c.find.result ≡ OutOfRange = cc in
+    rw c.new-in-OutOfRange.ensures (delete_by _ _ _ OutOfRange (sym e ∙ c.find.ensures))
 
 pub returns-in-WrongSizes : goal.returns-in-WrongSizes
 unfolding changed
 returns-in-WrongSizes c =
-    let r = c.find in
-    let e : r.result ≡ WrongSizes = cc in
-    rw c.new-in-WrongSizes.ensures (delete_by _ _ _ WrongSizes (sym e ∙ r.ensures))
+    let e : c.find.result ≡ WrongSizes = cc in
+    rw c.new-in-WrongSizes.ensures (delete_by _ _ _ WrongSizes (sym e ∙ c.find.ensures))
 
 pub returns-in-Damage : goal.returns-in-Damage
 unfolding changed
 returns-in-Damage c =
-    let r = c.find in
-    let e : r.result ≡ Damage = cc in
-    rw c.new-in-Damage.ensures (delete_by _ _ _ Damage (sym e ∙ r.ensures))
+    let e : c.find.result ≡ Damage = cc in
+    rw c.new-in-Damage.ensures (delete_by _ _ _ Damage (sym e ∙ c.find.ensures))

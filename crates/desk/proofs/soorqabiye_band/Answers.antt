@@ -17,33 +17,28 @@ passed l ks ps x e k f = ap pass_band (ap (λ (y : Listed). band (listed y) ks p
 pub returns-in-Done : goal.returns-in-Done
 unfolding pass_band listed
 returns-in-Done c =
-    let r = c.band in
-    passed _ _ _ _ r.ensures _ c.count-1.given.1
+    passed _ _ _ _ c.band.ensures _ c.count-1.given.1
 
 pub returns-in-WrongSizes : goal.returns-in-WrongSizes
 unfolding pass_band listed
 returns-in-WrongSizes c =
-    let r = c.band in
-    let e : r.result ≡ WrongSizes = cc in
-    rw c.refused_list.ensures (passed _ _ _ _ r.ensures WrongSizes e)
+    let e : c.band.result ≡ WrongSizes = cc in
+    rw c.refused_list.ensures (passed _ _ _ _ c.band.ensures WrongSizes e)
 
 pub returns-in-OutOfRange : goal.returns-in-OutOfRange
 unfolding pass_band listed
 returns-in-OutOfRange c =
-    let r = c.band in
-    let e : r.result ≡ OutOfRange = cc in
-    rw c.refused_list-in-OutOfRange.ensures (passed _ _ _ _ r.ensures OutOfRange e)
+    let e : c.band.result ≡ OutOfRange = cc in
+    rw c.refused_list-in-OutOfRange.ensures (passed _ _ _ _ c.band.ensures OutOfRange e)
 
 pub returns-in-Reversed : goal.returns-in-Reversed
 unfolding pass_band listed
 returns-in-Reversed c =
-    let r = c.band in
-    let e : r.result ≡ Reversed = cc in
-    rw c.refused_list-in-Reversed.ensures (passed _ _ _ _ r.ensures Reversed e)
+    let e : c.band.result ≡ Reversed = cc in
+    rw c.refused_list-in-Reversed.ensures (passed _ _ _ _ c.band.ensures Reversed e)
 
 pub returns-in-Damage : goal.returns-in-Damage
 unfolding pass_band listed
 returns-in-Damage c =
-    let r = c.band in
-    let e : r.result ≡ Damage = cc in
-    rw c.refused_list-in-Damage.ensures (passed _ _ _ _ r.ensures Damage e)
+    let e : c.band.result ≡ Damage = cc in
+    rw c.refused_list-in-Damage.ensures (passed _ _ _ _ c.band.ensures Damage e)

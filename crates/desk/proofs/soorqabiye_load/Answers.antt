@@ -16,39 +16,33 @@ passed l m x e k f = ap pass_load (ap (λ (y : Loaded). loaded y m) (sym f) ∙ 
 pub returns-in-Done : goal.returns-in-Done
 unfolding pass_load loaded
 returns-in-Done c =
-    let r = c.load in
-    passed _ _ _ r.ensures _ c.h-1.given.1
+    passed _ _ _ c.load.ensures _ c.h-1.given.1
 
 pub returns-in-WrongSizes : goal.returns-in-WrongSizes
 unfolding pass_load loaded
 returns-in-WrongSizes c =
-    let r = c.load in
-    let e : r.result ≡ WrongSizes = cc in
-    rw c.refused_load.ensures (passed _ _ _ r.ensures WrongSizes e)
+    let e : c.load.result ≡ WrongSizes = cc in
+    rw c.refused_load.ensures (passed _ _ _ c.load.ensures WrongSizes e)
 
 pub returns-in-Full : goal.returns-in-Full
 unfolding pass_load loaded
 returns-in-Full c =
-    let r = c.load in
-    let e : r.result ≡ Full = cc in
-    rw c.refused_load-in-Full.ensures (passed _ _ _ r.ensures Full e)
+    let e : c.load.result ≡ Full = cc in
+    rw c.refused_load-in-Full.ensures (passed _ _ _ c.load.ensures Full e)
 
 pub returns-in-OutOfRange : goal.returns-in-OutOfRange
 unfolding pass_load loaded
 returns-in-OutOfRange c =
-    let r = c.load in
-    let e : r.result ≡ OutOfRange = cc in
-    rw c.refused_load-in-OutOfRange.ensures (passed _ _ _ r.ensures OutOfRange e)
+    let e : c.load.result ≡ OutOfRange = cc in
+    rw c.refused_load-in-OutOfRange.ensures (passed _ _ _ c.load.ensures OutOfRange e)
 
 pub returns-in-NotRising : goal.returns-in-NotRising
 unfolding pass_load loaded
 returns-in-NotRising c =
-    let r = c.load in
-    rw c.refused_load-in-NotRising.ensures (passed _ _ _ r.ensures _ c.place-1.given.1)
+    rw c.refused_load-in-NotRising.ensures (passed _ _ _ c.load.ensures _ c.place-1.given.1)
 
 pub returns-in-NoRoom : goal.returns-in-NoRoom
 unfolding pass_load loaded
 returns-in-NoRoom c =
-    let r = c.load in
-    let e : r.result ≡ NoRoom = cc in
-    rw c.refused_load-in-NoRoom.ensures (passed _ _ _ r.ensures NoRoom e)
+    let e : c.load.result ≡ NoRoom = cc in
+    rw c.refused_load-in-NoRoom.ensures (passed _ _ _ c.load.ensures NoRoom e)

@@ -10,32 +10,27 @@ use Rattle.desk.proofs.soorqabiye_lookup.Goals as goal
 pub returns-in-Found : goal.returns-in-Found
 unfolding pass_looked looked
 returns-in-Found c =
-    let r = c.lookup in
-    ap (λ (p : Looked). pass_looked (looked p)) (sym c.payload-1.given.1) ∙ ap pass_looked r.ensures
+    ap (λ (p : Looked). pass_looked (looked p)) (sym c.payload-1.given.1) ∙ ap pass_looked c.lookup.ensures
 
 pub returns-in-NotHeld : goal.returns-in-NotHeld
 unfolding pass_looked looked
 returns-in-NotHeld c =
-    let r = c.lookup in
-    ap (λ (p : Looked). pass_looked (looked p)) (sym c.visits-1.given.1) ∙ ap pass_looked r.ensures
+    ap (λ (p : Looked). pass_looked (looked p)) (sym c.visits-1.given.1) ∙ ap pass_looked c.lookup.ensures
 
 pub returns-in-OutOfRange : goal.returns-in-OutOfRange
 unfolding pass_looked looked
 returns-in-OutOfRange c =
-    let r = c.lookup in
-    let e : r.result ≡ OutOfRange = cc in
-    c.refused_look.ensures ∙ ap (λ (p : Looked). pass_looked (looked p)) (sym e) ∙ ap pass_looked r.ensures
+    let e : c.lookup.result ≡ OutOfRange = cc in
+    c.refused_look.ensures ∙ ap (λ (p : Looked). pass_looked (looked p)) (sym e) ∙ ap pass_looked c.lookup.ensures
 
 pub returns-in-WrongSizes : goal.returns-in-WrongSizes
 unfolding pass_looked looked
 returns-in-WrongSizes c =
-    let r = c.lookup in
-    let e : r.result ≡ WrongSizes = cc in
-    c.refused_look-in-WrongSizes.ensures ∙ ap (λ (p : Looked). pass_looked (looked p)) (sym e) ∙ ap pass_looked r.ensures
+    let e : c.lookup.result ≡ WrongSizes = cc in
+    c.refused_look-in-WrongSizes.ensures ∙ ap (λ (p : Looked). pass_looked (looked p)) (sym e) ∙ ap pass_looked c.lookup.ensures
 
 pub returns-in-Damage : goal.returns-in-Damage
 unfolding pass_looked looked
 returns-in-Damage c =
-    let r = c.lookup in
-    let e : r.result ≡ Damage = cc in
-    c.refused_look-in-Damage.ensures ∙ ap (λ (p : Looked). pass_looked (looked p)) (sym e) ∙ ap pass_looked r.ensures
+    let e : c.lookup.result ≡ Damage = cc in
+    c.refused_look-in-Damage.ensures ∙ ap (λ (p : Looked). pass_looked (looked p)) (sym e) ∙ ap pass_looked c.lookup.ensures

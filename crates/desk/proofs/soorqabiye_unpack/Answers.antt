@@ -14,15 +14,13 @@ use Rattle.desk.proofs.soorqabiye_unpack.Goals as goal
 pub returns-in_default : goal.returns-in_default
 unfolding pass_sounding unpacked
 returns-in_default c =
-    let r = c.unpack in
-    let e : r.result ≡ OutOfRange = cc in
-    ap (λ (p : Unpacked). pass_sounding (unpacked p)) (sym e) ∙ ap pass_sounding r.ensures
+    let e : c.unpack.result ≡ OutOfRange = cc in
+    ap (λ (p : Unpacked). pass_sounding (unpacked p)) (sym e) ∙ ap pass_sounding c.unpack.ensures
 
 pub returns : goal.returns
 unfolding pass_sounding unpacked
 returns c =
-    let r = c.unpack in
     let s = c.s-1.given.0.0 in
     let f : SFits w64 s.depth = search rules in
     ap (λ (d : ℤ). record { number = 0; depth = d; sounding = s.number }) (to_z-of_z w64 s.depth f)
-    ∙ ap (λ (p : Unpacked). pass_sounding (unpacked p)) (sym c.s-1.given.1) ∙ ap pass_sounding r.ensures
+    ∙ ap (λ (p : Unpacked). pass_sounding (unpacked p)) (sym c.s-1.given.1) ∙ ap pass_sounding c.unpack.ensures

@@ -10,18 +10,15 @@ use Rattle.edge.proofs.soorqabiye_model_choice.Goals as goal
 pub returns-in-Is : goal.returns-in-Is
 unfolding pass_model chosen chosen_values
 returns-in-Is c =
-    let r = c.model_choice in
-    ap (λ (p : Chosen). pass_model (chosen p)) (sym c.c-1.given.1) ∙ ap pass_model r.ensures
+    ap (λ (p : Chosen). pass_model (chosen p)) (sym c.c-1.given.1) ∙ ap pass_model c.model_choice.ensures
 
 pub returns-in-NotRising : goal.returns-in-NotRising
 unfolding pass_model chosen
 returns-in-NotRising c =
-    let r = c.model_choice in
-    ap (λ (p : Chosen). pass_model (chosen p)) (sym c.place-1.given.1) ∙ ap pass_model r.ensures
+    ap (λ (p : Chosen). pass_model (chosen p)) (sym c.place-1.given.1) ∙ ap pass_model c.model_choice.ensures
 
 pub returns-in-WrongLength : goal.returns-in-WrongLength
 unfolding pass_model chosen
 returns-in-WrongLength c =
-    let r = c.model_choice in
-    let e : r.result ≡ WrongLength = cc in
-    ap (λ (p : Chosen). pass_model (chosen p)) (sym e) ∙ ap pass_model r.ensures
+    let e : c.model_choice.result ≡ WrongLength = cc in
+    ap (λ (p : Chosen). pass_model (chosen p)) (sym e) ∙ ap pass_model c.model_choice.ensures

@@ -13,12 +13,10 @@ use Rattle.edge.proofs.soorqabiye_pack.Goals as goal
 pub returns-in_default : goal.returns-in_default
 unfolding pass_key packed
 returns-in_default c =
-    let r = c.pack in
-    let e : r.result ≡ OutOfRange = cc in
-    ap (λ (p : Packed). pass_key (packed p)) (sym e) ∙ ap pass_key r.ensures ∙ ap (λ (d : ℤ). pass_key (pack_of d c.args.number)) (to_z-of_z w64 c.args.depth c.ranges.depth)
+    let e : c.pack.result ≡ OutOfRange = cc in
+    ap (λ (p : Packed). pass_key (packed p)) (sym e) ∙ ap pass_key c.pack.ensures ∙ ap (λ (d : ℤ). pass_key (pack_of d c.args.number)) (to_z-of_z w64 c.args.depth c.ranges.depth)
 
 pub returns : goal.returns
 unfolding pass_key packed
 returns c =
-    let r = c.pack in
-    ap (λ (p : Packed). pass_key (packed p)) (sym c.key-1.given.1) ∙ ap pass_key r.ensures ∙ ap (λ (d : ℤ). pass_key (pack_of d c.args.number)) (to_z-of_z w64 c.args.depth c.ranges.depth)
+    ap (λ (p : Packed). pass_key (packed p)) (sym c.key-1.given.1) ∙ ap pass_key c.pack.ensures ∙ ap (λ (d : ℤ). pass_key (pack_of d c.args.number)) (to_z-of_z w64 c.args.depth c.ranges.depth)

@@ -16,19 +16,16 @@ passed k m n e r h q f = ap pass_slot (ap slotted (sym f) ∙ h ∙ ap (slot_cho
 pub returns-in-At : goal.returns-in-At
 unfolding pass_slot slotted
 returns-in-At c =
-    let r = c.slot_choice in
-    passed c.args.key _ _ c.new.ensures _ r.ensures (At _) c.slot-1.given.1
+    passed c.args.key _ _ c.new.ensures _ c.slot_choice.ensures (At _) c.slot-1.given.1
 
 pub returns-in-KeyOutOfRange : goal.returns-in-KeyOutOfRange
 unfolding pass_slot slotted
 returns-in-KeyOutOfRange c =
-    let r = c.slot_choice in
-    let e : r.result ≡ KeyOutOfRange = cc in
-    passed _ _ _ c.new.ensures _ r.ensures KeyOutOfRange e
+    let e : c.slot_choice.result ≡ KeyOutOfRange = cc in
+    passed _ _ _ c.new.ensures _ c.slot_choice.ensures KeyOutOfRange e
 
 pub returns-in-ModelOutOfRange : goal.returns-in-ModelOutOfRange
 unfolding pass_slot slotted
 returns-in-ModelOutOfRange c =
-    let r = c.slot_choice in
-    let e : r.result ≡ ModelOutOfRange = cc in
-    passed _ _ _ c.new.ensures _ r.ensures ModelOutOfRange e
+    let e : c.slot_choice.result ≡ ModelOutOfRange = cc in
+    passed _ _ _ c.new.ensures _ c.slot_choice.ensures ModelOutOfRange e

@@ -8,17 +8,16 @@ use borrow.Author.Rules.{rules}
 use Rattle.insert.proofs.rebuild_whole.Goals as goal
 
 pub returns-then-not-is_sound : goal.returns-then-not-is_sound
-returns-then-not-is_sound c = whole-damage _ _ _ _ _ _ c.refuse.ensures (sym c.is_sound.ensures ∙ not-true _ c.if-not-is_sound.true)
+returns-then-not-is_sound c = whole-damage _ _ _ _ _ _ c.refuse.ensures (sym c.is_sound.ensures ∙ c.if-not-is_sound.true)
 
 pub rebuild-requires : goal.rebuild-requires
 rebuild-requires c =
-    ready_rebuildable c.args.h _ _ _ _ _ c.requires (omega arith) (sym c.is_sound.ensures ∙ not-false _ c.if-not-is_sound.false)
+    ready_rebuildable c.args.h _ _ _ _ _ c.requires (omega arith) (sym c.is_sound.ensures ∙ c.if-not-is_sound.false)
 
 pub returns-in-At : goal.returns-in-At
-returns-in-At c = whole-done _ _ _ _ _ _ (sym c.is_sound.ensures ∙ not-false _ c.if-not-is_sound.false) _ _ _ c.rebuild.ensures _ c.r-1.given.1 c.done.ensures
+returns-in-At c = whole-done _ _ _ _ _ _ (sym c.is_sound.ensures ∙ c.if-not-is_sound.false) _ _ _ c.rebuild.ensures _ c.r-1.given.1 c.done.ensures
 
 pub returns-in-NoRoom : goal.returns-in-NoRoom
 returns-in-NoRoom c =
-    let r = c.rebuild in
-    let e : r.result ≡ NoRoom = cc in
-    whole-roomless _ _ _ _ _ _ (sym c.is_sound.ensures ∙ not-false _ c.if-not-is_sound.false) _ _ _ r.ensures e c.refuse-in-NoRoom.ensures
+    let e : c.rebuild.result ≡ NoRoom = cc in
+    whole-roomless _ _ _ _ _ _ (sym c.is_sound.ensures ∙ c.if-not-is_sound.false) _ _ _ c.rebuild.ensures e c.refuse-in-NoRoom.ensures

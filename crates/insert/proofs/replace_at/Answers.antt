@@ -6,13 +6,13 @@ use borrow.Author.Rules.{rules}
 use Rattle.insert.proofs.replace_at.Goals as goal
 
 pub hang-requires : goal.hang-requires
-hang-requires c = (λ e. omega (arith, c.requires.1.1.0.above-slot e, c.drop_pair.auto.1.1.1.0), c.requires.1.1.1)
+hang-requires c = (λ e. omega (arith, c.requires.stores.above-slot e, c.drop_pair.auto.1.1.1.0), c.requires.r_bound)
 
 pub raise-requires : goal.raise-requires
-raise-requires c = (c.requires.1.1.0.within, on_path_stays _ _ _ (let e = c.drop_pair.auto.1.1.0 in rw e) c.requires.1.1.0.on)
+raise-requires c = record { n_le_len = c.requires.stores.within; on_path = on_path_stays _ _ _ (let e = c.drop_pair.auto.1.1.0 in rw e) c.requires.stores.on }
 
 pub returns-then-at-lt1 : goal.returns-then-at-lt1
-returns-then-at-lt1 c = replaced-root _ _ _ _ _ _ c.args.path _ _ _ _ _ _ _ _ _ _ _ c.requires.1.1.0.within c.drop_pair.ensures c.hang.ensures c.raise.ensures c.if-at-lt1.true c.done.ensures
+returns-then-at-lt1 c = replaced-root _ _ _ _ _ _ c.args.path _ _ _ _ _ _ _ _ _ _ _ c.requires.stores.within c.drop_pair.ensures c.hang.ensures c.raise.ensures c.if-at-lt1.true c.done.ensures
 
 pub returns : goal.returns
-returns c = replaced-below _ _ _ _ _ _ c.args.path _ _ _ _ _ _ _ _ _ _ _ c.requires.1.1.0.within c.drop_pair.ensures c.hang.ensures c.raise.ensures c.if-at-lt1.false c.done-2.ensures
+returns c = replaced-below _ _ _ _ _ _ c.args.path _ _ _ _ _ _ _ _ _ _ _ c.requires.stores.within c.drop_pair.ensures c.hang.ensures c.raise.ensures c.if-at-lt1.false c.done-2.ensures

@@ -11,28 +11,25 @@ use borrow.Author.Rules.{rules}
 use Rattle.insert.proofs.settle.Goals as goal
 
 pub returns-then-not-sound_due : goal.returns-then-not-sound_due
-returns-then-not-sound_due c = settle-damage _ _ _ _ _ _ _ _ _ _ c.due_at-at.ensures _ c.refuse.ensures (sym c.sound_due.ensures ∙ not-true _ c.if-not-sound_due.true)
+returns-then-not-sound_due c = settle-damage _ _ _ _ _ _ _ _ _ _ c.due_at-at.ensures _ c.refuse.ensures (sym c.sound_due.ensures ∙ c.if-not-sound_due.true)
 
 pub slot_above-above-requires : goal.slot_above-above-requires
 slot_above-above-requires c =
-    (c.requires.0.is_key, ((c.requires.1.sized, rw c.due_at-at.ensures (due_among _ _ _ _)), c.requires.1.good))
+    record { key_lt_key_bound = c.requires.ready.is_key; sized = (c.requires.ends.sized, rw c.due_at-at.ensures (due_among _ _ _ _)); good_path = c.requires.ends.good }
 
 pub returns-in_default : goal.returns-in_default
 returns-in_default c =
-    let r = c.build_pair in
-    let e : r.result ≡ NoRoom = cc in
-    settle-roomless _ _ _ _ _ _ _ _ _ _ c.due_at-at.ensures (sym c.sound_due.ensures ∙ not-false _ c.if-not-sound_due.false) _ c.slot_above-above.ensures _ _ r.ensures _ c.refuse-in_default.ensures c.requires.1.pair e
+    let e : c.build_pair.result ≡ NoRoom = cc in
+    settle-roomless _ _ _ _ _ _ _ _ _ _ c.due_at-at.ensures (sym c.sound_due.ensures ∙ c.if-not-sound_due.false) _ c.slot_above-above.ensures _ _ c.build_pair.ensures _ c.refuse-in_default.ensures c.requires.ends.pair e
 
 pub tidy-requires : goal.tidy-requires
 tidy-requires c =
-    let y = c.requires.0 in
-    let d = c.requires.1 in
-    let r = c.build_pair in
-    let n = r.auto.1.1.1.1.1.0 in
-    let w = r.auto.1.1.1.1.1.1.0 in
-    let u = r.auto.1.1.1.1.1.1.1.0 in
-    let a = c.due_at-at.ensures in (
-      record {
+    let y = c.requires.ready in
+    let d = c.requires.ends in
+    let n = c.build_pair.auto.1.1.1.1.1.0 in
+    let w = c.build_pair.auto.1.1.1.1.1.1.0 in
+    let u = c.build_pair.auto.1.1.1.1.1.1.1.0 in
+    let a = c.due_at-at.ensures in record { ready = record {
         least = y.least;
         most = y.most;
         space = y.space;
@@ -41,20 +38,15 @@ tidy-requires c =
         payloads = y.payloads;
         places = y.places;
         is_key = y.is_key;
-      },
-      (
-        record {
+      }; stores = record {
           slot = omega (arith, d.slot, w);
-          pair = pair_small _ _ _ _ _ _ _ _ r.ensures _ c.c-1.given.1 y.pools;
+          pair = pair_small _ _ _ _ _ _ _ _ c.build_pair.ensures _ c.c-1.given.1 y.pools;
           above-slot = λ e. omega (arith, c.slot_above-above.ensures, above_within _ d.sized _ d.good c.args.key c.due_at-at.result e (rw a (due_among _ _ _ _)), w);
           sized = d.sized;
           on = on_path_stays _ _ _ (rw n) d.on;
           within = rw a (due_among _ _ _ _);
-        },
-        still_sound _ _ _ _ _ (sym c.sound_due.ensures ∙ not-false _ c.if-not-sound_due.false) _ _ _ _ _ _ _ r.ensures,
-      ),
-    )
+        }; used_value = still_sound _ _ _ _ _ (sym c.sound_due.ensures ∙ c.if-not-sound_due.false) _ _ _ _ _ _ _ c.build_pair.ensures }
 
 pub returns : goal.returns
 returns c =
-    settle-tidy _ _ _ _ _ _ _ _ _ _ c.due_at-at.ensures (sym c.sound_due.ensures ∙ not-false _ c.if-not-sound_due.false) _ c.slot_above-above.ensures _ _ c.build_pair.ensures _ _ c.c-1.given.1 c.tidy.ensures
+    settle-tidy _ _ _ _ _ _ _ _ _ _ c.due_at-at.ensures (sym c.sound_due.ensures ∙ c.if-not-sound_due.false) _ c.slot_above-above.ensures _ _ c.build_pair.ensures _ _ c.c-1.given.1 c.tidy.ensures

@@ -4,7 +4,7 @@ use borrow.Author.Rules.{rules}
 use Rattle.insert.proofs.sound_due.Goals as goal
 
 pub returns-then-path-at : goal.returns-then-path-at
-returns-then-path-at c = due_none _ c.requires.1 _ _ _ _ c.if-path-at.true
+returns-then-path-at c = due_none _ c.requires.sized _ _ _ _ c.if-path-at.true
 
 pub returns : goal.returns
-returns c = due_sound _ c.requires.1 _ _ _ _ _ c.if-path-at.false c.is_sound.ensures
+returns c = due_sound _ c.requires.sized _ _ _ _ _ c.if-path-at.false c.is_sound.ensures

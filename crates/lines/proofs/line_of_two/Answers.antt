@@ -9,8 +9,4 @@ use Rattle.lines.proofs.line_of_two.Goals as goal
 
 pub returns : goal.returns
 unfolding line numbers
-returns c = let p = c.put-first.ensures in
-    let a = c.put_spaced-second.ensures in
-    let b = c.put_spaced-end.ensures in
-    let e = c.put.ensures in
-    (then_write _ _ _ _ _ p.0 (then_write _ _ _ _ _ a.0 (then_write _ _ _ _ _ b.0 e.0)), (omega (arith, p.1, a.1, b.1, e.1), omega (arith, p.1, a.1, b.1, e.1)))
+returns c = record { result_after = then_write _ _ _ _ _ c.put-first.ensures.result_after (then_write _ _ _ _ _ c.put_spaced-second.ensures.result_after (then_write _ _ _ _ _ c.put_spaced-end.ensures.result_after c.put.ensures.result_after)); upper_bound = (omega (arith, c.put-first.ensures.value, c.put_spaced-second.ensures.upper_bound, c.put_spaced-end.ensures.upper_bound, c.put.ensures.value), omega (arith, c.put-first.ensures.value, c.put_spaced-second.ensures.upper_bound, c.put_spaced-end.ensures.upper_bound, c.put.ensures.value)) }

@@ -8,4 +8,4 @@ use Rattle.lines.proofs.put.Goals as goal
 
 pub returns : goal.returns
 unfolding write
-returns c = (refl, (refl, length-set c.args.out.now c.args.at c.args.b))
+returns c = record { result_after = refl; value = (refl, length-set c.args.out.now c.args.at c.args.b) }

@@ -13,11 +13,9 @@ use Rattle.lines.proofs.put_spaced.Goals as goal
 pub put_decimal-requires : goal.put_decimal-requires
 unfolding spaced
 put_decimal-requires c = let d : length (spaced c.args.n) ≤ longest_number = spaced-length c.args.n (omega arith) in
-    omega (arith, c.put-next.ensures.1, d)
+    omega (arith, c.put-next.ensures.value, d)
 
 pub returns : goal.returns
 unfolding spaced
 returns c = let d : length (spaced c.args.n) ≤ longest_number = spaced-length c.args.n (omega arith) in
-    let p = c.put-next.ensures in
-    let q = c.put_decimal.ensures in
-    (then_write _ _ _ (space ∷ []) (decimal c.args.n) p.0 q.0, (omega (arith, d, p.1, q.1), omega (arith, p.1, q.1)))
+    record { result_after = then_write _ _ _ (space ∷ []) (decimal c.args.n) c.put-next.ensures.result_after c.put_decimal.ensures.result_after; upper_bound = (omega (arith, d, c.put-next.ensures.value, c.put_decimal.ensures.value), omega (arith, c.put-next.ensures.value, c.put_decimal.ensures.value)) }

@@ -11,7 +11,5 @@ use Rattle.lines.proofs.two.Lts as lts
 use Rattle.lines.proofs.two.Goals as goal
 
 pub returns : goal.returns
-returns c = let a = c.wide-a.ensures in
-    let b = c.wide-b.ensures in
-    let e : little_endian 2 (drop c.args.p c.args.bytes.now) ≡ get_or c.args.bytes.now c.args.p 0 + 256 * get_or c.args.bytes.now (c.args.p + 1) 0 = two_bytes _ c.args.p (omega (arith, c.requires)) in
-    (rw (e, a.0, b.0), omega (arith, a.1, b.1))
+returns c = let e : little_endian 2 (drop c.args.p c.args.bytes.now) ≡ get_or c.args.bytes.now c.args.p 0 + 256 * get_or c.args.bytes.now (c.args.p + 1) 0 = two_bytes _ c.args.p (omega (arith, c.requires)) in
+    (rw (e, c.wide-a.ensures.0, c.wide-b.ensures.0), omega (arith, c.wide-a.ensures.1, c.wide-b.ensures.1))

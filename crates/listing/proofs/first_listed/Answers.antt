@@ -9,9 +9,8 @@ to_listed-requires c =
     let p = c.requires in
     let f = c.first_item-first in
     let k = f.auto.1.1.1.1.1.1.1 in
-    (p.0, (f.ensures.stands, (omega (arith, k.0, p.1), omega (arith, k.1.0, p.1))))
+    record { span_fits = p.0; holds = f.ensures.stands; longest_path_in_bounds = (omega (arith, k.0, p.1), omega (arith, k.1.0, p.1)) }
 
 pub returns : goal.returns
 returns c =
-    let f = c.first_item-first in
-    lands_of (left-found _ _ _ f.result _ _ _ _ f.ensures) c.to_listed.ensures
+    lands_of (left-found _ _ _ c.first_item-first.result _ _ _ _ c.first_item-first.ensures) c.to_listed.ensures

@@ -11,39 +11,35 @@ use Rattle.walk.specs.declared.Item.TheVariants.{Broken, End}
 use Rattle.listing.proofs.to_listed.Goals as goal
 
 pub loop-k-init : goal.loop-k-init
-loop-k-init c = (reached_first _ _ _ _ _ _ _ _ c.requires.1.0, (refl, refl))
+loop-k-init c = (reached_first _ _ _ _ _ _ _ _ c.requires.holds, (refl, refl))
 
 pub returns-then-inside : goal.returns-then-inside
 returns-then-inside c = lands_in _ _ _ _ _ _ _ _ _ c.loop-k.invariant.0 _ _ c.item-1.given.1 (sym c.inside.ensures ∙ c.if-inside.true)
 
 pub next_item-next-requires : goal.next_item-next-requires
 next_item-next-requires c =
-    let l = c.loop-k in
     let p = c.requires in
-    (p.0, (held-stands _ _ _ l.next _ _ c.item-1.given.1 l.invariant.0.stands, (omega (arith, l.invariant.1, p.1.1), omega (arith, l.invariant.1, p.1.1))))
+    record { span_fits = p.0; standing = held-stands _ _ _ c.loop-k.next _ _ c.item-1.given.1 c.loop-k.invariant.0.stands; longest_path_in_bounds = (omega (arith, c.loop-k.invariant.1, p.1.1), omega (arith, c.loop-k.invariant.1, p.1.1)) }
 
 pub loop-k-smaller : goal.loop-k-smaller
 loop-k-smaller c = one_shorter _ _ _ c.loop-k.next _ _ _ _ c.item-1.given.1 _ _ _ c.next_item-next.ensures
 
 pub loop-k-preserved : goal.loop-k-preserved
 loop-k-preserved c =
-    let l = c.loop-k in
     let k = c.next_item-next.auto.1.1.1.1.1.1.1 in (
-      reached_next _ _ _ l.next _ _ _ _ c.item-1.given.1 _ _ _ c.next_item-next.ensures _ _ _ (sym c.inside.ensures ∙ c.if-inside.false) l.invariant.0,
-      (k.0 ∙ l.invariant.1.0, k.1.0 ∙ l.invariant.1.1),
+      reached_next _ _ _ c.loop-k.next _ _ _ _ c.item-1.given.1 _ _ _ c.next_item-next.ensures _ _ _ (sym c.inside.ensures ∙ c.if-inside.false) c.loop-k.invariant.0,
+      (k.0 ∙ c.loop-k.invariant.1.0, k.1.0 ∙ c.loop-k.invariant.1.1),
     )
 
 pub returns-in-Broken : goal.returns-in-Broken
 returns-in-Broken c =
-    let l = c.loop-k in
-    let e : l.next.item ≡ Broken = cc in
-    lands_broken _ _ _ _ _ _ _ _ _ l.invariant.0 e
+    let e : c.loop-k.next.item ≡ Broken = cc in
+    lands_broken _ _ _ _ _ _ _ _ _ c.loop-k.invariant.0 e
 
 pub returns-in-End : goal.returns-in-End
 returns-in-End c =
-    let l = c.loop-k in
-    let e : l.next.item ≡ End = cc in
-    lands_end _ _ _ _ _ _ _ _ _ l.invariant.0 e
+    let e : c.loop-k.next.item ≡ End = cc in
+    lands_end _ _ _ _ _ _ _ _ _ c.loop-k.invariant.0 e
 
 -- MISS
 -- same_length : tie.Need-same-length invariant-loop decreases-loop

@@ -15,36 +15,31 @@ use Rattle.walk.specs.declared.Item.TheVariants.{Broken, End}
 use Rattle.listing.proofs.write.Goals as goal
 
 pub first_listed-next-requires : goal.first_listed-next-requires
-first_listed-next-requires c = (c.requires.0, (omega arith, omega arith))
+first_listed-next-requires c = record { span_fits = c.requires.span_fits; above_lt_longest_path = omega arith; longest_path_in_bounds = omega arith }
 
 pub overflow_add-end : goal.overflow_add-end
-overflow_add-end c = omega (arith, c.requires.1.1.0)
+overflow_add-end c = omega (arith, c.requires.count_bound)
 
 pub loop-n-init : goal.loop-n-init
 loop-n-init c =
-    let f = c.first_listed-next in
-    let k = f.auto.1.1.1.1.1.1.1.1.1 in
-    (writing_first _ _ _ _ _ _ _ _ _ _ _ _ _ f.ensures, ((k.0, k.1.0), (refl, refl)))
+    let k = c.first_listed-next.auto.1.1.1.1.1.1.1.1.1 in
+    (writing_first _ _ _ _ _ _ _ _ _ _ _ _ _ c.first_listed-next.ensures, ((k.0, k.1.0), (refl, refl)))
 
 pub offset_bounds-keys-n : goal.offset_bounds-keys-n
 offset_bounds-keys-n c =
-    let l = c.loop-n in
-    let f = c.first_listed-next in
-    let h : l.n < length c.args.keys.now =
-    place-within _ _ _ _ _ _ _ _ f.result _ _ f.ensures _ _ c.requires.1.1.1.0
-    (writing_within _ _ _ _ _ _ _ _ _ _ _ l.next _ _ _ _ l.invariant.0 _ _ c.item-1.given.1 c.loop-n-test.true)
+    let h : c.loop-n.n < length c.args.keys.now =
+    place-within _ _ _ _ _ _ _ _ c.first_listed-next.result _ _ c.first_listed-next.ensures _ _ c.requires.r_in_bounds
+    (writing_within _ _ _ _ _ _ _ _ _ _ _ c.loop-n.next _ _ _ _ c.loop-n.invariant.0 _ _ c.item-1.given.1 c.loop-n-test.true)
     in
     omega (arith, h, c.well-formed.1.1.1.1.1.1.1.1.1.1.0)
 
 pub bounds-keys-n : goal.bounds-keys-n
 bounds-keys-n c =
-    let l = c.loop-n in
-    let f = c.first_listed-next in
-    let h : l.n < length c.args.keys.now =
-    place-within _ _ _ _ _ _ _ _ f.result _ _ f.ensures _ _ c.requires.1.1.1.0
-    (writing_within _ _ _ _ _ _ _ _ _ _ _ l.next _ _ _ _ l.invariant.0 _ _ c.item-1.given.1 c.loop-n-test.true)
+    let h : c.loop-n.n < length c.args.keys.now =
+    place-within _ _ _ _ _ _ _ _ c.first_listed-next.result _ _ c.first_listed-next.ensures _ _ c.requires.r_in_bounds
+    (writing_within _ _ _ _ _ _ _ _ _ _ _ c.loop-n.next _ _ _ _ c.loop-n.invariant.0 _ _ c.item-1.given.1 c.loop-n-test.true)
     in
-    omega (arith, h, l.invariant.1.1)
+    omega (arith, h, c.loop-n.invariant.1.1)
 
 pub overflow_mul-payloads : goal.overflow_mul-payloads
 overflow_mul-payloads c = omega (arith, (held-sound _ _ _ c.loop-n.next _ _ c.item-1.given.1 c.loop-n.invariant.0.stands).slot, c.well-formed.1.0)
@@ -57,26 +52,22 @@ offset_bounds-slots-q c = omega (arith, (held-sound _ _ _ c.loop-n.next _ _ c.it
 
 pub offset_bounds-payloads-n : goal.offset_bounds-payloads-n
 offset_bounds-payloads-n c =
-    let l = c.loop-n in
-    let f = c.first_listed-next in
-    let h : l.n < length c.args.keys.now =
-    place-within _ _ _ _ _ _ _ _ f.result _ _ f.ensures _ _ c.requires.1.1.1.0
-    (writing_within _ _ _ _ _ _ _ _ _ _ _ l.next _ _ _ _ l.invariant.0 _ _ c.item-1.given.1 c.loop-n-test.true)
+    let h : c.loop-n.n < length c.args.keys.now =
+    place-within _ _ _ _ _ _ _ _ c.first_listed-next.result _ _ c.first_listed-next.ensures _ _ c.requires.r_in_bounds
+    (writing_within _ _ _ _ _ _ _ _ _ _ _ c.loop-n.next _ _ _ _ c.loop-n.invariant.0 _ _ c.item-1.given.1 c.loop-n-test.true)
     in
     omega (arith, h, c.well-formed.1.1.1.1.1.1.1.1.1.1.0)
 
 pub bounds-payloads-n : goal.bounds-payloads-n
 bounds-payloads-n c =
-    let l = c.loop-n in
-    let f = c.first_listed-next in
-    let h : l.n < length c.args.keys.now =
-    place-within _ _ _ _ _ _ _ _ f.result _ _ f.ensures _ _ c.requires.1.1.1.0
-    (writing_within _ _ _ _ _ _ _ _ _ _ _ l.next _ _ _ _ l.invariant.0 _ _ c.item-1.given.1 c.loop-n-test.true)
+    let h : c.loop-n.n < length c.args.keys.now =
+    place-within _ _ _ _ _ _ _ _ c.first_listed-next.result _ _ c.first_listed-next.ensures _ _ c.requires.r_in_bounds
+    (writing_within _ _ _ _ _ _ _ _ _ _ _ c.loop-n.next _ _ _ _ c.loop-n.invariant.0 _ _ c.item-1.given.1 c.loop-n-test.true)
     in
-    omega (arith, h, l.invariant.1.1, c.requires.1.1.1.1)
+    omega (arith, h, c.loop-n.invariant.1.1, c.requires.payloads_len)
 
 pub overflow_add-n : goal.overflow_add-n
-overflow_add-n c = omega (arith, c.loop-n-test.true, c.requires.1.1.0)
+overflow_add-n c = omega (arith, c.loop-n-test.true, c.requires.count_bound)
 
 pub slice_bounds-next_listed-end : goal.slice_bounds-next_listed-end
 slice_bounds-next_listed-end c = sym c.loop-n.invariant.1.0.0
@@ -86,8 +77,7 @@ slice_bounds-next_listed-end-in-Held c = sym c.loop-n.invariant.1.0.1
 
 pub next_listed-next-requires : goal.next_listed-next-requires
 next_listed-next-requires c =
-    let l = c.loop-n in
-    (c.requires.0, (held-stands _ _ _ l.next _ _ c.item-1.given.1 l.invariant.0.stands, (omega (arith, l.invariant.1.0), omega (arith, l.invariant.1.0))))
+    record { span_fits = c.requires.span_fits; standing = held-stands _ _ _ c.loop-n.next _ _ c.item-1.given.1 c.loop-n.invariant.0.stands; longest_path_in_bounds = (omega (arith, c.loop-n.invariant.1.0), omega (arith, c.loop-n.invariant.1.0)) }
 
 pub loop-n-smaller : goal.loop-n-smaller
 loop-n-smaller c = omega (arith, c.loop-n-test.true)
@@ -95,33 +85,27 @@ loop-n-smaller c = omega (arith, c.loop-n-test.true)
 pub loop-n-preserved : goal.loop-n-preserved
 loop-n-preserved c =
     let k = c.next_listed-next.auto.1.1.1.1.1.1.1.1 in
-    let l = c.loop-n in (
-      writing_next _ _ _ _ _ _ _ _ _ _ _ l.next _ _ _ _ l.invariant.0 _ _ c.item-1.given.1 c.loop-n-test.true _ _ _ c.next_listed-next.ensures,
-      ((k.0 ∙ l.invariant.1.0.0, k.1.0 ∙ l.invariant.1.0.1), (simp length-set l.invariant.1.1.0, simp length-set l.invariant.1.1.1)),
+    (
+      writing_next _ _ _ _ _ _ _ _ _ _ _ c.loop-n.next _ _ _ _ c.loop-n.invariant.0 _ _ c.item-1.given.1 c.loop-n-test.true _ _ _ c.next_listed-next.ensures,
+      ((k.0 ∙ c.loop-n.invariant.1.0.0, k.1.0 ∙ c.loop-n.invariant.1.0.1), (simp length-set c.loop-n.invariant.1.1.0, simp length-set c.loop-n.invariant.1.1.1)),
     )
 
 pub returns-in-Broken : goal.returns-in-Broken
 returns-in-Broken c =
-    let l = c.loop-n in
-    let f = c.first_listed-next in
-    let e : l.next.item ≡ Broken = cc in
-    let w = all_written _ _ _ _ _ _ _ _ f.result _ _ _ _ _ _ _ f.ensures (writing_broken _ _ _ _ _ _ _ _ _ _ _ l.next _ _ _ _ l.invariant.0 e) in
-    (w.place, (w.keys, w.payloads))
+    let e : c.loop-n.next.item ≡ Broken = cc in
+    let w = all_written _ _ _ _ _ _ _ _ c.first_listed-next.result _ _ _ _ _ _ _ c.first_listed-next.ensures (writing_broken _ _ _ _ _ _ _ _ _ _ _ c.loop-n.next _ _ _ _ c.loop-n.invariant.0 e) in
+    record { value = w.place; keys_after = w.keys; payloads_after = w.payloads }
 
 pub returns-in-End : goal.returns-in-End
 returns-in-End c =
-    let l = c.loop-n in
-    let f = c.first_listed-next in
-    let e : l.next.item ≡ End = cc in
-    let w = all_written _ _ _ _ _ _ _ _ f.result _ _ _ _ _ _ _ f.ensures (writing_end _ _ _ _ _ _ _ _ _ _ _ l.next _ _ _ _ l.invariant.0 e) in
-    (w.place, (w.keys, w.payloads))
+    let e : c.loop-n.next.item ≡ End = cc in
+    let w = all_written _ _ _ _ _ _ _ _ c.first_listed-next.result _ _ _ _ _ _ _ c.first_listed-next.ensures (writing_end _ _ _ _ _ _ _ _ _ _ _ c.loop-n.next _ _ _ _ c.loop-n.invariant.0 e) in
+    record { value = w.place; keys_after = w.keys; payloads_after = w.payloads }
 
 pub returns : goal.returns
 returns c =
-    let l = c.loop-n in
-    let f = c.first_listed-next in
-    let w = all_written _ _ _ _ _ _ _ _ f.result _ _ _ _ _ _ _ f.ensures (writing_done _ _ _ _ _ _ _ _ _ _ _ l.next _ _ _ _ l.invariant.0 c.loop-n-test.false) in
-    (w.place, (w.keys, w.payloads))
+    let w = all_written _ _ _ _ _ _ _ _ c.first_listed-next.result _ _ _ _ _ _ _ c.first_listed-next.ensures (writing_done _ _ _ _ _ _ _ _ _ _ _ c.loop-n.next _ _ _ _ c.loop-n.invariant.0 c.loop-n-test.false) in
+    record { value = w.place; keys_after = w.keys; payloads_after = w.payloads }
 
 -- MISS
 -- shared-slice-read-payloads : tie.Need-shared-slice-read-payloads invariant-loop decreases-loop

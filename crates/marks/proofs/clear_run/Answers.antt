@@ -21,7 +21,7 @@ loop-q-preserved-then-end-q-ge64 c =
       refl,
       omega (arith, leb-true),
       simp length-set l.2,
-      clear-next-word _ _ _ c.if-q-eq0.true (leb-true _ _ c.if-end-q-ge64.true) (omega arith) l.4 ∙ l.3,
+      clear-next-word _ _ _ c.if-q-eq0.true c.if-end-q-ge64.true (omega arith) l.4 ∙ l.3,
       store_words k.used (k.q / 64) 0 l.4 (omega arith),
     )
 

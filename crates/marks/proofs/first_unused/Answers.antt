@@ -19,16 +19,16 @@ skip_full-requires c = (omega (arith, leb-true), omega arith)
 pub loop-i-preserved-then-used-p : goal.loop-i-preserved-then-used-p
 loop-i-preserved-then-used-p c =
     let l = c.loop-i.invariant in
-    let w = full-words_each _ _ _ c.if-p-eq0.true (eqb-true _ _ c.if-used-p.true) c.skip_full.ensures.2 in
+    let w = full-words_each _ _ _ c.if-p-eq0.true c.if-used-p.true c.skip_full.ensures.2 in
     (omega arith, (λ j h. used-next _ _ _ _ l.1 w j (omega arith)))
 
 pub returns-then-not-is_used : goal.returns-then-not-is_used
-returns-then-not-is_used c = sym (first_unused_is _ _ _ _ (omega arith) c.loop-i.invariant.1 (λ h. sym c.is_used.ensures ∙ not-true _ c.if-not-is_used.true))
+returns-then-not-is_used c = sym (first_unused_is _ _ _ _ (omega arith) c.loop-i.invariant.1 (λ h. sym c.is_used.ensures ∙ c.if-not-is_used.true))
 
 pub loop-i-preserved : goal.loop-i-preserved
 loop-i-preserved c =
     let l = c.loop-i.invariant in
-    (omega arith, used-next _ _ _ 1 l.1 (each_one _ _ (sym c.is_used.ensures ∙ not-false _ c.if-not-is_used.false)))
+    (omega arith, used-next _ _ _ 1 l.1 (each_one _ _ (sym c.is_used.ensures ∙ c.if-not-is_used.false)))
 
 pub returns : goal.returns
 returns c = sym (first_unused_is _ _ _ _ (omega arith) (λ j h. c.loop-i.invariant.1 j (omega arith)) (λ h. absurd (omega arith)))

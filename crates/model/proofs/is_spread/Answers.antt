@@ -12,20 +12,16 @@ loop-i-init c = (omega arith, counted_none _ _ _)
 
 pub slot_of-s-requires : goal.slot_of-s-requires
 slot_of-s-requires c =
-    (c.requires.0, c.requires.1.below c.loop-i.i (omega arith))
+    record { in_range = c.requires.in_range; x_lt_value_bound = c.requires.rising.below c.loop-i.i (omega arith) }
 
 pub returns-then-t-c : goal.returns-then-t-c
 returns-then-t-c c =
-    let l = c.loop-i in
-    let r = c.slot_of-s in
-    counted_full _ _ _ l.i _ l.invariant.1 r.result (omega arith) r.ensures.0 (omega arith) r.ensures.1 (omega arith)
+    counted_full _ _ _ c.loop-i.i _ c.loop-i.invariant.1 c.slot_of-s.result (omega arith) c.slot_of-s.ensures.0 (omega arith) c.slot_of-s.ensures.1 (omega arith)
 
 pub loop-i-preserved : goal.loop-i-preserved
 loop-i-preserved c =
-    let l = c.loop-i in
-    let r = c.slot_of-s in
-    (omega arith, counted_more _ _ _ l.i _ l.invariant.1 r.result (omega arith) r.ensures.0 (omega arith) (omega arith))
+    (omega arith, counted_more _ _ _ c.loop-i.i _ c.loop-i.invariant.1 c.slot_of-s.result (omega arith) c.slot_of-s.ensures.0 (omega arith) (omega arith))
 
 pub returns : goal.returns
 returns c =
-    counted_all _ _ _ _ _ c.loop-i.invariant.1 c.loop-i-test.false c.requires.0.most
+    counted_all _ _ _ _ _ c.loop-i.invariant.1 c.loop-i-test.false c.requires.in_range.most

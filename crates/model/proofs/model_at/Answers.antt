@@ -10,11 +10,11 @@ use Rattle.model.proofs.model_at.Goals as goal
 
 pub overflow_sub-w-3 : goal.overflow_sub-w-3
 overflow_sub-w-3 c =
-    rising_climbs _ c.requires.0 c.args.t (length c.args.keys.now - 1 - c.args.t) (omega arith) (omega arith)
+    rising_climbs _ c.requires.rising c.args.t (length c.args.keys.now - 1 - c.args.t) (omega arith) (omega arith)
 
 pub overflow_add-w : goal.overflow_add-w
 overflow_add-w c =
-    omega (arith, c.requires.0.below (length c.args.keys.now - 1 - c.args.t) (omega arith))
+    omega (arith, c.requires.rising.below (length c.args.keys.now - 1 - c.args.t) (omega arith))
 
 pub returns : goal.returns
 unfolding model_at

@@ -14,51 +14,49 @@ returns-then-n-lt1 c = empty-choice _ _ c.if-n-lt1.true c.new.ensures
 
 pub model_at-requires : goal.model_at-requires
 model_at-requires c =
-    (c.requires.0, omega arith)
+    record { rising = c.requires.rising; t_in_bounds = omega arith }
 
 pub returns-then-n-lt3 : goal.returns-then-n-lt3
 returns-then-n-lt3 c = few-choice _ _ (omega arith) (omega arith) c.model_at.ensures
 
 pub loop-m-init : goal.loop-m-init
 loop-m-init c =
-    (omega arith, omega arith, (t-least _ c.requires.0 (omega arith)).positive)
+    (omega arith, omega arith, (t-least _ c.requires.rising (omega arith)).positive)
 
 pub overflow_cast-t : goal.overflow_cast-t
 overflow_cast-t c =
     let i = c.loop-m.invariant in
-    omega (arith, try_within _ c.requires.0 i.0 _ i.1 i.2, c.requires.1)
+    omega (arith, try_within _ c.requires.rising i.0 _ i.1 i.2, c.requires.keys_len_bound)
 
 pub model_at-m-requires : goal.model_at-m-requires
 model_at-m-requires c =
     let i = c.loop-m.invariant in
-    (c.requires.0, try_within _ c.requires.0 i.0 _ i.1 i.2)
+    record { rising = c.requires.rising; t_in_bounds = try_within _ c.requires.rising i.0 _ i.1 i.2 }
 
 pub is_spread-requires : goal.is_spread-requires
 is_spread-requires c =
     let i = c.loop-m.invariant in
-    (try_in_range _ c.requires.0 i.0 _ i.1 i.2 _ c.model_at-m.ensures, c.requires.0)
+    record { in_range = try_in_range _ c.requires.rising i.0 _ i.1 i.2 _ c.model_at-m.ensures; rising = c.requires.rising }
 
 pub overflow_cast-result : goal.overflow_cast-result
 overflow_cast-result c =
     let i = c.loop-m.invariant in
-    omega (arith, try_within _ c.requires.0 i.0 _ i.1 i.2, c.requires.1)
+    omega (arith, try_within _ c.requires.rising i.0 _ i.1 i.2, c.requires.keys_len_bound)
 
 pub returns-then-is_spread : goal.returns-then-is_spread
 returns-then-is_spread c =
-    let l = c.loop-m in
-    try_passes _ c.requires.0 l.invariant.0 _ l.invariant.1 l.invariant.2 _ c.model_at-m.ensures _ c.is_spread.ensures c.if-is_spread.true
+    try_passes _ c.requires.rising c.loop-m.invariant.0 _ c.loop-m.invariant.1 c.loop-m.invariant.2 _ c.model_at-m.ensures _ c.is_spread.ensures c.if-is_spread.true
 
 pub overflow_add-t : goal.overflow_add-t
 overflow_add-t c =
     let i = c.loop-m.invariant in
-    omega (arith, try_within _ c.requires.0 i.0 _ i.1 i.2, c.requires.1)
+    omega (arith, try_within _ c.requires.rising i.0 _ i.1 i.2, c.requires.keys_len_bound)
 
 pub loop-m-smaller : goal.loop-m-smaller
 loop-m-smaller c =
-    let l = c.loop-m in
-    omega (arith, try_fails _ c.requires.0 l.invariant.0 _ l.invariant.1 l.invariant.2 _ c.model_at-m.ensures _ c.is_spread.ensures c.if-is_spread.false)
+    omega (arith, try_fails _ c.requires.rising c.loop-m.invariant.0 _ c.loop-m.invariant.1 c.loop-m.invariant.2 _ c.model_at-m.ensures _ c.is_spread.ensures c.if-is_spread.false)
 
 pub loop-m-preserved : goal.loop-m-preserved
 loop-m-preserved c =
     let l = c.loop-m in
-    (l.invariant.0, omega arith, omega (arith, try_fails _ c.requires.0 l.invariant.0 _ l.invariant.1 l.invariant.2 _ c.model_at-m.ensures _ c.is_spread.ensures c.if-is_spread.false))
+    (l.invariant.0, omega arith, omega (arith, try_fails _ c.requires.rising l.invariant.0 _ l.invariant.1 l.invariant.2 _ c.model_at-m.ensures _ c.is_spread.ensures c.if-is_spread.false))

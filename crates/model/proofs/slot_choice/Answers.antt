@@ -29,7 +29,7 @@ unfolding slotted
 returns-then-m c = choice_model _ _ (omega arith) (λ r. omega arith)
 
 pub slot_of-requires : goal.slot_of-requires
-slot_of-requires c = (record { least = omega arith; most = omega arith; wide = omega arith; top = omega arith }, omega arith)
+slot_of-requires c = record { in_range = record { least = omega arith; most = omega arith; wide = omega arith; top = omega arith }; x_lt_value_bound = omega arith }
 
 pub returns : goal.returns
 unfolding slotted

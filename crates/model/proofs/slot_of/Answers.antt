@@ -7,13 +7,11 @@ use Rattle.model.proofs.slot_of.Goals as goal
 
 pub returns-then-x-m : goal.returns-then-x-m
 returns-then-x-m c =
-    let a = c.args in
-    (sym (slot-first a.m a.x c.if-x-m.true), search rules)
+    (sym (slot-first c.args.m c.args.x c.if-x-m.true), search rules)
 
 pub returns-then-m-x : goal.returns-then-m-x
 returns-then-m-x c =
-    let a = c.args in
-    (sym (slot_last a.m a.x (omega arith) (omega arith)), omega arith)
+    (sym (slot_last c.args.m c.args.x (omega arith) (omega arith)), omega arith)
 
 pub overflow_mul-result : goal.overflow_mul-result
 overflow_mul-result c = record { fits = scaled_fits64 _ _ (omega arith) (omega arith) }
@@ -23,6 +21,5 @@ overflow_add-result c = record { fits = share_fits64 _ _ _ (omega arith) (omega 
 
 pub returns : goal.returns
 returns c =
-    let a = c.args in
-    let e = slot-within a.m a.x (omega arith) (omega arith) in
-    (sym e, omega (arith, e, slot_under a.m c.requires.0 a.x))
+    let e = slot-within c.args.m c.args.x (omega arith) (omega arith) in
+    (sym e, omega (arith, e, slot_under c.args.m c.requires.in_range c.args.x))

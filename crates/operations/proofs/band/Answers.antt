@@ -15,39 +15,21 @@ use Rattle.operations.proofs.band.Lts as lts
 use Rattle.operations.proofs.band.Goals as goal
 
 pub returns-in_default : goal.returns-in_default
-returns-in_default c = let f = c.band-answer in
-    let l = c.line_of_one.ensures in (
-      ap (λ (x : Band). x.keys) f.ensures,
-      (
-        ap (λ (x : Band). x.payloads) f.ensures,
-        (refused-band-text _ _ _ (listed f.result) _ l.0 c.listed_number-number.ensures (listed-refuses f.result c.in_default.keys2) (ap (λ (x : Band). x.answer) f.ensures), (omega (arith, l.1.0), l.1.1)),
-      ),
-    )
+returns-in_default c = record { keys_after = ap (λ (x : Band). x.keys) c.band-answer.ensures; payloads_after = ap (λ (x : Band). x.payloads) c.band-answer.ensures; result_after = refused-band-text _ _ _ (listed c.band-answer.result) _ c.line_of_one.ensures.result_after c.listed_number-number.ensures (listed-refuses c.band-answer.result c.in_default.keys2) (ap (λ (x : Band). x.answer) c.band-answer.ensures); upper_bound = (omega (arith, c.line_of_one.ensures.upper_bound.0), c.line_of_one.ensures.upper_bound.1) }
 
 pub list_elements-requires : goal.list_elements-requires
 unfolding listed
-list_elements-requires c = let f = c.band-answer in
-    let g = c.answer-1.given in
-    let l = c.line_of_three-first.ensures in
-    let kept = f.auto.1.1.1.1.1.1 in
+list_elements-requires c = let g = c.answer-1.given in
+    let kept = c.band-answer.auto.1.1.1.1.1.1 in
     let fits : g.0.0 ≤ length c.args.keys.now =
-    band-lists c.args.h c.args.u c.args.v _ _ _ g.0.0 g.0.1.0 _ _ (ap (λ (x : Listed). band (listed x) f.new.1.1.1.1.1.1.0 f.new.1.1.1.1.1.1.1.0) (sym g.1) ∙ f.ensures)
+    band-lists c.args.h c.args.u c.args.v _ _ _ g.0.0 g.0.1.0 _ _ (ap (λ (x : Listed). band (listed x) c.band-answer.new.1.1.1.1.1.1.0 c.band-answer.new.1.1.1.1.1.1.1.0) (sym g.1) ∙ c.band-answer.ensures)
     in
-    ((omega (arith, fits, kept.0), omega (arith, fits, kept.1.0, c.requires.0.1)), omega (arith, fits, c.requires.0.0, c.requires.1, l.1))
+    record { n_in_bounds = (omega (arith, fits, kept.0), omega (arith, fits, kept.1.0, c.requires.keys_len_bound.1)); n_in_bounds_2 = omega (arith, fits, c.requires.keys_len_bound.0, c.requires.longest_answer_in_bounds, c.line_of_three-first.ensures.upper_bound) }
 
 pub returns : goal.returns
 unfolding listed
-returns c = let f = c.band-answer in
-    let g = c.answer-1.given in
-    let l = c.line_of_three-first.ensures in
-    let e = c.list_elements.ensures in
-    let told : band (listed (Done g.0.0 g.0.1.0)) f.new.1.1.1.1.1.1.0 f.new.1.1.1.1.1.1.1.0 ≡ band (listed f.result) f.new.1.1.1.1.1.1.0 f.new.1.1.1.1.1.1.1.0 =
-    ap (λ (x : Listed). band (listed x) f.new.1.1.1.1.1.1.0 f.new.1.1.1.1.1.1.1.0) (sym g.1)
+returns c = let g = c.answer-1.given in
+    let told : band (listed (Done g.0.0 g.0.1.0)) c.band-answer.new.1.1.1.1.1.1.0 c.band-answer.new.1.1.1.1.1.1.1.0 ≡ band (listed c.band-answer.result) c.band-answer.new.1.1.1.1.1.1.0 c.band-answer.new.1.1.1.1.1.1.1.0 =
+    ap (λ (x : Listed). band (listed x) c.band-answer.new.1.1.1.1.1.1.0 c.band-answer.new.1.1.1.1.1.1.1.0) (sym g.1)
     in
-    let fits : g.0.0 ≤ length c.args.keys.now = band-lists c.args.h c.args.u c.args.v _ _ _ g.0.0 g.0.1.0 _ _ (told ∙ f.ensures) in (
-      ap (λ (x : Band). x.keys) f.ensures,
-      (
-        ap (λ (x : Band). x.payloads) f.ensures,
-        (done-band-text _ _ _ g.0.0 g.0.1.0 _ _ _ l.0 e.0 (told ∙ f.ensures), (omega (arith, fits, c.requires.0.0, l.1, e.1), e.1.1 ∙ l.1.1)),
-      ),
-    )
+    let fits : g.0.0 ≤ length c.args.keys.now = band-lists c.args.h c.args.u c.args.v _ _ _ g.0.0 g.0.1.0 _ _ (told ∙ c.band-answer.ensures) in record { keys_after = ap (λ (x : Band). x.keys) c.band-answer.ensures; payloads_after = ap (λ (x : Band). x.payloads) c.band-answer.ensures; result_after = done-band-text _ _ _ g.0.0 g.0.1.0 _ _ _ c.line_of_three-first.ensures.result_after c.list_elements.ensures.result_after (told ∙ c.band-answer.ensures); upper_bound = (omega (arith, fits, c.requires.keys_len_bound.0, c.line_of_three-first.ensures.upper_bound, c.list_elements.ensures.upper_bound), c.list_elements.ensures.upper_bound.1 ∙ c.line_of_three-first.ensures.upper_bound.1) }

@@ -10,23 +10,7 @@ use Rattle.operations.proofs.delete.Lts as lts
 use Rattle.operations.proofs.delete.Goals as goal
 
 pub returns-in_default : goal.returns-in_default
-returns-in_default c = let f = c.delete-c in
-    let l = c.line_of_one-end.ensures in
-    let a = f.result.answer in (
-      ap (λ (x : Call). x.handle) f.ensures,
-      (
-        ap (λ (x : Call). x.memory) f.ensures,
-        (refused-text _ _ 2 _ (changed a) _ l.0 c.changed_number-number.ensures (changed-refuses a c.in_default.keys2) (ap (λ (x : Call). x.answer) f.ensures), (omega (arith, l.1.0), l.1.1)),
-      ),
-    )
+returns-in_default c = let a = c.delete-c.result.answer in record { handle_value = ap (λ (x : Call). x.handle) c.delete-c.ensures; used_after = ap (λ (x : Call). x.memory) c.delete-c.ensures; at_after = refused-text _ _ 2 _ (changed a) _ c.line_of_one-end.ensures.result_after c.changed_number-number.ensures (changed-refuses a c.in_default.keys2) (ap (λ (x : Call). x.answer) c.delete-c.ensures); at_bound = (omega (arith, c.line_of_one-end.ensures.upper_bound.0), c.line_of_one-end.ensures.upper_bound.1) }
 
 pub returns : goal.returns
-returns c = let f = c.delete-c in
-    let l = c.line_of_one-end-2.ensures in
-    let a = f.result.answer in (
-      ap (λ (x : Call). x.handle) f.ensures,
-      (
-        ap (λ (x : Call). x.memory) f.ensures,
-        (done-text _ _ 2 [] (changed a) _ l.0 (changed-done a c.in-Done.keys1) (ap (λ (x : Call). x.answer) f.ensures), (omega (arith, l.1.0), l.1.1)),
-      ),
-    )
+returns c = let a = c.delete-c.result.answer in record { handle_value = ap (λ (x : Call). x.handle) c.delete-c.ensures; used_after = ap (λ (x : Call). x.memory) c.delete-c.ensures; at_after = done-text _ _ 2 [] (changed a) _ c.line_of_one-end-2.ensures.result_after (changed-done a c.in-Done.keys1) (ap (λ (x : Call). x.answer) c.delete-c.ensures); at_bound = (omega (arith, c.line_of_one-end-2.ensures.upper_bound.0), c.line_of_one-end-2.ensures.upper_bound.1) }

@@ -10,30 +10,8 @@ use Rattle.operations.proofs.insert.Lts as lts
 use Rattle.operations.proofs.insert.Goals as goal
 
 pub returns-in_default : goal.returns-in_default
-returns-in_default c = let f = c.insert-i in
-    let l = c.line_of_one-end.ensures in
-    let a = f.result.answer in (
-      ap (λ (x : Insert). x.handle) f.ensures,
-      (
-        ap (λ (x : Insert). x.memory) f.ensures,
-        (
-          ap (λ (x : Insert). x.scratch) f.ensures,
-          (refused-text _ _ 1 _ (inserted a) _ l.0 c.inserted_number-number.ensures (inserted-refuses a c.in_default.keys2) (ap (λ (x : Insert). x.answer) f.ensures), (omega (arith, l.1.0), l.1.1)),
-        ),
-      ),
-    )
+returns-in_default c = let a = c.insert-i.result.answer in record { handle_value = ap (λ (x : Insert). x.handle) c.insert-i.ensures; used_after = ap (λ (x : Insert). x.memory) c.insert-i.ensures; places_after = ap (λ (x : Insert). x.scratch) c.insert-i.ensures; at_after = refused-text _ _ 1 _ (inserted a) _ c.line_of_one-end.ensures.result_after c.inserted_number-number.ensures (inserted-refuses a c.in_default.keys2) (ap (λ (x : Insert). x.answer) c.insert-i.ensures); at_bound = (omega (arith, c.line_of_one-end.ensures.upper_bound.0), c.line_of_one-end.ensures.upper_bound.1) }
 
 pub returns : goal.returns
 unfolding inserted
-returns c = let f = c.insert-i in
-    let l = c.line_of_three-end.ensures in
-    let a = f.result.answer in (
-      ap (λ (x : Insert). x.handle) f.ensures,
-      (
-        ap (λ (x : Insert). x.memory) f.ensures,
-        (
-          ap (λ (x : Insert). x.scratch) f.ensures,
-          (done-text _ _ 1 (_ ∷ _ ∷ []) (inserted a) _ l.0 (ap inserted c.answer-1.given.1) (ap (λ (x : Insert). x.answer) f.ensures), l.1),
-        ),
-      ),
-    )
+returns c = let a = c.insert-i.result.answer in record { handle_value = ap (λ (x : Insert). x.handle) c.insert-i.ensures; used_after = ap (λ (x : Insert). x.memory) c.insert-i.ensures; places_after = ap (λ (x : Insert). x.scratch) c.insert-i.ensures; at_after = done-text _ _ 1 (_ ∷ _ ∷ []) (inserted a) _ c.line_of_three-end.ensures.result_after (ap inserted c.answer-1.given.1) (ap (λ (x : Insert). x.answer) c.insert-i.ensures); at_bound = c.line_of_three-end.ensures.upper_bound }

@@ -16,7 +16,7 @@ loop-i-init c = let z : c.args.n - 0 ≡ c.args.n = omega arith in
     (rw z, (omega arith, (refl, omega arith)))
 
 pub line_of_two-end-requires : goal.line_of_two-end-requires
-line_of_two-end-requires c = omega (arith, c.requires.1, c.loop-i-test.true, c.loop-i.invariant.1.0, c.loop-i.invariant.1.1.0)
+line_of_two-end-requires c = omega (arith, c.requires.n_in_bounds_2, c.loop-i-test.true, c.loop-i.invariant.1.0, c.loop-i.invariant.1.1.0)
 
 pub overflow_add-i : goal.overflow_add-i
 overflow_add-i c = omega (arith, c.loop-i-test.true)
@@ -25,13 +25,11 @@ pub loop-i-smaller : goal.loop-i-smaller
 loop-i-smaller c = omega (arith, c.loop-i-test.true)
 
 pub loop-i-preserved : goal.loop-i-preserved
-loop-i-preserved c = let l = c.loop-i in
-    let e = c.line_of_two-end.ensures in
-    (elements-next _ _ _ _ l.i _ c.loop-i-test.true e.0 ∙ l.invariant.0, (omega (arith, l.invariant.1.0, e.1.0), (e.1.1 ∙ l.invariant.1.1.0, omega (arith, c.loop-i-test.true))))
+loop-i-preserved c = let e = c.line_of_two-end.ensures in
+    (elements-next _ _ _ _ c.loop-i.i _ c.loop-i-test.true e.0 ∙ c.loop-i.invariant.0, (omega (arith, c.loop-i.invariant.1.0, e.1.0), (e.1.1 ∙ c.loop-i.invariant.1.1.0, omega (arith, c.loop-i-test.true))))
 
 pub returns : goal.returns
-returns c = let l = c.loop-i in
-    (sym (elements-end _ _ _ l.i _ c.loop-i-test.false) ∙ l.invariant.0, (omega (arith, l.invariant.1.0, l.invariant.1.1.1), l.invariant.1.1.0))
+returns c = record { result_after = sym (elements-end _ _ _ c.loop-i.i _ c.loop-i-test.false) ∙ c.loop-i.invariant.0; upper_bound = (omega (arith, c.loop-i.invariant.1.0, c.loop-i.invariant.1.1.1), c.loop-i.invariant.1.1.0) }
 
 -- MISS
 -- shared-slice-read-line-of-two : tie.Need-shared-slice-read-line-of-two invariant-loop decreases-loop

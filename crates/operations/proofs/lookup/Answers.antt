@@ -10,12 +10,8 @@ use Rattle.operations.proofs.lookup.Lts as lts
 use Rattle.operations.proofs.lookup.Goals as goal
 
 pub returns-in_default : goal.returns-in_default
-returns-in_default c = let f = c.lookup-answer in
-    let l = c.line_of_one.ensures in
-    (refused-text _ _ 3 _ (looked f.result) _ l.0 c.looked_number-number.ensures (looked-refuses f.result c.in_default.keys2) f.ensures, (omega (arith, l.1.0), l.1.1))
+returns-in_default c = record { result_after = refused-text _ _ 3 _ (looked c.lookup-answer.result) _ c.line_of_one.ensures.result_after c.looked_number-number.ensures (looked-refuses c.lookup-answer.result c.in_default.keys2) c.lookup-answer.ensures; upper_bound = (omega (arith, c.line_of_one.ensures.upper_bound.0), c.line_of_one.ensures.upper_bound.1) }
 
 pub returns : goal.returns
 unfolding looked
-returns c = let f = c.lookup-answer in
-    let l = c.line_of_three.ensures in
-    (done-text _ _ 3 (_ ∷ _ ∷ []) (looked f.result) _ l.0 (ap looked c.answer-1.given.1) f.ensures, l.1)
+returns c = record { result_after = done-text _ _ 3 (_ ∷ _ ∷ []) (looked c.lookup-answer.result) _ c.line_of_three.ensures.result_after (ap looked c.answer-1.given.1) c.lookup-answer.ensures; upper_bound = c.line_of_three.ensures.upper_bound }

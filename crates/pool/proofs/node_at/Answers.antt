@@ -18,7 +18,7 @@ pub returns-then-nodes-r : goal.returns-then-nodes-r
 returns-then-nodes-r c = sym (reads_outside _ _ (omega arith))
 
 pub returns-then-not-is_used : goal.returns-then-not-is_used
-returns-then-not-is_used c = sym (reads_unmarked _ _ (omega arith) (sym c.is_used.ensures ∙ not-true _ c.if-not-is_used.true))
+returns-then-not-is_used c = sym (reads_unmarked _ _ (omega arith) (sym c.is_used.ensures ∙ c.if-not-is_used.true))
 
 pub returns-then-count-l : goal.returns-then-count-l
 unfolding node_in

@@ -15,10 +15,8 @@ loop-k-init c = (refl, zeros-whole c.args.words.now)
 
 pub loop-k-preserved : goal.loop-k-preserved
 loop-k-preserved c =
-    let l = c.loop-k in
-    (simp length-set l.invariant.0, sym (zeros-step l.words l.k _ (omega arith)) ∙ l.invariant.1)
+    (simp length-set c.loop-k.invariant.0, sym (zeros-step c.loop-k.words c.loop-k.k _ (omega arith)) ∙ c.loop-k.invariant.1)
 
 pub returns : goal.returns
 returns c =
-    let l = c.loop-k in
-    sym (zeros-end l.words l.k _ (omega arith)) ∙ l.invariant.1
+    sym (zeros-end c.loop-k.words c.loop-k.k _ (omega arith)) ∙ c.loop-k.invariant.1

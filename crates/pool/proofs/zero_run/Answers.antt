@@ -16,10 +16,8 @@ loop-i-init c = (omega arith, refl, zero_run-start _ _ _)
 
 pub loop-i-preserved : goal.loop-i-preserved
 loop-i-preserved c =
-    let l = c.loop-i in
-    (omega arith, simp length-set l.invariant.1, sym (zeros-step l.slots l.i _ c.loop-i-test.true) ∙ l.invariant.2)
+    (omega arith, simp length-set c.loop-i.invariant.1, sym (zeros-step c.loop-i.slots c.loop-i.i _ c.loop-i-test.true) ∙ c.loop-i.invariant.2)
 
 pub returns : goal.returns
 returns c =
-    let l = c.loop-i in
-    sym (zeros-end l.slots l.i _ c.loop-i-test.false) ∙ l.invariant.2
+    sym (zeros-end c.loop-i.slots c.loop-i.i _ c.loop-i-test.false) ∙ c.loop-i.invariant.2

@@ -8,30 +8,30 @@ use borrow.Author.Tests.{not-true, not-false}
 use Rattle.rebuild.proofs.build_in_place.Goals as goal
 
 pub has_room-requires : goal.has_room-requires
-has_room-requires c = asked 0 0 _ _ _ _ c.requires.0 _ _ c.sizes-needs.ensures
+has_room-requires c = asked 0 0 _ _ _ _ c.requires.judgeable _ _ c.sizes-needs.ensures
 
 pub returns-then-not-has_room : goal.returns-then-not-has_room
-returns-then-not-has_room c = judges_no_room _ _ _ _ _ _ c.requires.0 _ _ c.sizes-needs.ensures _ _ _ c.has_room.ensures (not-true _ c.if-not-has_room.true)
+returns-then-not-has_room c = judges_no_room _ _ _ _ _ _ c.requires.judgeable _ _ c.sizes-needs.ensures _ _ _ c.has_room.ensures c.if-not-has_room.true
 
 pub overflow_add-above : goal.overflow_add-above
-overflow_add-above c = omega (arith, c.requires.1.0, depth_small 0 0 _ _ _ _ c.requires.0 _ _ c.sizes-needs.ensures)
+overflow_add-above c = omega (arith, c.requires.above_le_longest_path, depth_small 0 0 _ _ _ _ c.requires.judgeable _ _ c.sizes-needs.ensures)
 
 pub returns-then-above-needs-gt-LONGEST : goal.returns-then-above-needs-gt-LONGEST
-returns-then-above-needs-gt-LONGEST c = judges_too_deep _ _ _ _ _ _ c.requires.0 _ _ c.sizes-needs.ensures _ _ _ c.has_room.ensures (omega (arith, c.if-above-needs-gt-LONGEST.true))
+returns-then-above-needs-gt-LONGEST c = judges_too_deep _ _ _ _ _ _ c.requires.judgeable _ _ c.sizes-needs.ensures _ _ _ c.has_room.ensures (omega (arith, c.if-above-needs-gt-LONGEST.true))
 
 pub build_node-g-requires : goal.build_node-g-requires
 build_node-g-requires c =
-    let j = c.requires.0 in
-    (j.rising, (j.same, (j.few, (left-sized 0 0 _ _ _ _ j _ _ c.sizes-needs.ensures _ c.has_room.ensures.used, hinted_first _))))
+    let j = c.requires.judgeable in
+    record { rising = j.rising; payloads_len = j.same; keys_len_bound = j.few; sized = left-sized 0 0 _ _ _ _ j _ _ c.sizes-needs.ensures _ c.has_room.ensures.used; hinted = hinted_first _ }
 
 pub release-requires : goal.release-requires
 release-requires c =
-    let j = c.requires.0 in
+    let j = c.requires.judgeable in
     built-sized 0 0 _ _ _ _ j _ _ _ (left-sized 0 0 _ _ _ _ j _ _ c.sizes-needs.ensures _ c.has_room.ensures.used) c.build_node-g.ensures.is
 
 pub returns : goal.returns
 returns c =
-    judges_built _ _ _ _ _ _ c.requires.0 _ _ c.sizes-needs.ensures _ _ _ c.has_room.ensures c.requires.1.1 (not-false _ c.if-not-has_room.false) (omega (arith, c.if-above-needs-gt-LONGEST.false)) _ _ _ c.build_node-g.ensures.is c.release.ensures
+    judges_built _ _ _ _ _ _ c.requires.judgeable _ _ c.sizes-needs.ensures _ _ _ c.has_room.ensures c.requires.sound c.if-not-has_room.false (omega (arith, c.if-above-needs-gt-LONGEST.false)) _ _ _ c.build_node-g.ensures.is c.release.ensures
 
 -- MISS
 -- same-length-8 : tie.Need-same-length-8

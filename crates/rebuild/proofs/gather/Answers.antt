@@ -9,50 +9,42 @@ use borrow.Author.Rules.{rules}
 use Rattle.rebuild.proofs.gather.Goals as goal
 
 pub write-lower-requires : goal.write-lower-requires
-write-lower-requires c = (tt, (c.requires.high, (omega (arith, c.requires.most), (first_fits _ _ _ _ _ _ c.rules_of-rules.ensures _ _ c.requires, c.requires.same))))
+write-lower-requires c = record { span_fits = tt; above_lt_longest_path = c.requires.high; count_bound = omega (arith, c.requires.most); r_in_bounds = first_fits _ _ _ _ _ _ c.rules_of-rules.ensures _ _ c.requires; payloads_len = c.requires.same }
 
 pub offset_bounds-keys-lower : goal.offset_bounds-keys-lower
 offset_bounds-keys-lower c =
-    let w = c.write-lower in
-    let h : w.result < length c.args.keys.now = middle_fits _ _ _ _ _ _ c.rules_of-rules.ensures _ _ c.requires _ w.ensures.0 in
-    omega (arith, h, c.requires.same, c.well-formed.1.1.1.1.1.1.1.1.0, c.well-formed.1.1.1.1.1.1.1.1.1.0, w.auto.1.1.1.1.1.1.1.1.1.1.0, w.auto.1.1.1.1.1.1.1.1.1.1.1.0)
+    let h : c.write-lower.result < length c.args.keys.now = middle_fits _ _ _ _ _ _ c.rules_of-rules.ensures _ _ c.requires _ c.write-lower.ensures.value in
+    omega (arith, h, c.requires.same, c.well-formed.1.1.1.1.1.1.1.1.0, c.well-formed.1.1.1.1.1.1.1.1.1.0, c.write-lower.auto.1.1.1.1.1.1.1.1.1.1.0, c.write-lower.auto.1.1.1.1.1.1.1.1.1.1.1.0)
 
 pub bounds-keys-lower : goal.bounds-keys-lower
 bounds-keys-lower c =
-    let w = c.write-lower in
-    let h : w.result < length c.args.keys.now = middle_fits _ _ _ _ _ _ c.rules_of-rules.ensures _ _ c.requires _ w.ensures.0 in
-    omega (arith, h, c.requires.same, c.well-formed.1.1.1.1.1.1.1.1.0, c.well-formed.1.1.1.1.1.1.1.1.1.0, w.auto.1.1.1.1.1.1.1.1.1.1.0, w.auto.1.1.1.1.1.1.1.1.1.1.1.0)
+    let h : c.write-lower.result < length c.args.keys.now = middle_fits _ _ _ _ _ _ c.rules_of-rules.ensures _ _ c.requires _ c.write-lower.ensures.value in
+    omega (arith, h, c.requires.same, c.well-formed.1.1.1.1.1.1.1.1.0, c.well-formed.1.1.1.1.1.1.1.1.1.0, c.write-lower.auto.1.1.1.1.1.1.1.1.1.1.0, c.write-lower.auto.1.1.1.1.1.1.1.1.1.1.1.0)
 
 pub offset_bounds-payloads-lower : goal.offset_bounds-payloads-lower
 offset_bounds-payloads-lower c =
-    let w = c.write-lower in
-    let h : w.result < length c.args.keys.now = middle_fits _ _ _ _ _ _ c.rules_of-rules.ensures _ _ c.requires _ w.ensures.0 in
-    omega (arith, h, c.requires.same, c.well-formed.1.1.1.1.1.1.1.1.0, c.well-formed.1.1.1.1.1.1.1.1.1.0, w.auto.1.1.1.1.1.1.1.1.1.1.0, w.auto.1.1.1.1.1.1.1.1.1.1.1.0)
+    let h : c.write-lower.result < length c.args.keys.now = middle_fits _ _ _ _ _ _ c.rules_of-rules.ensures _ _ c.requires _ c.write-lower.ensures.value in
+    omega (arith, h, c.requires.same, c.well-formed.1.1.1.1.1.1.1.1.0, c.well-formed.1.1.1.1.1.1.1.1.1.0, c.write-lower.auto.1.1.1.1.1.1.1.1.1.1.0, c.write-lower.auto.1.1.1.1.1.1.1.1.1.1.1.0)
 
 pub bounds-payloads-lower : goal.bounds-payloads-lower
 bounds-payloads-lower c =
-    let w = c.write-lower in
-    let h : w.result < length c.args.keys.now = middle_fits _ _ _ _ _ _ c.rules_of-rules.ensures _ _ c.requires _ w.ensures.0 in
-    omega (arith, h, c.requires.same, c.well-formed.1.1.1.1.1.1.1.1.0, c.well-formed.1.1.1.1.1.1.1.1.1.0, w.auto.1.1.1.1.1.1.1.1.1.1.0, w.auto.1.1.1.1.1.1.1.1.1.1.1.0)
+    let h : c.write-lower.result < length c.args.keys.now = middle_fits _ _ _ _ _ _ c.rules_of-rules.ensures _ _ c.requires _ c.write-lower.ensures.value in
+    omega (arith, h, c.requires.same, c.well-formed.1.1.1.1.1.1.1.1.0, c.well-formed.1.1.1.1.1.1.1.1.1.0, c.write-lower.auto.1.1.1.1.1.1.1.1.1.1.0, c.write-lower.auto.1.1.1.1.1.1.1.1.1.1.1.0)
 
 pub overflow_add-lower : goal.overflow_add-lower
 overflow_add-lower c =
-    let w = c.write-lower in
-    let h : w.result < length c.args.keys.now = middle_fits _ _ _ _ _ _ c.rules_of-rules.ensures _ _ c.requires _ w.ensures.0 in
+    let h : c.write-lower.result < length c.args.keys.now = middle_fits _ _ _ _ _ _ c.rules_of-rules.ensures _ _ c.requires _ c.write-lower.ensures.value in
     omega (arith, h, c.well-formed.1.1.1.1.1.1.1.1.0)
 
 pub write-requires : goal.write-requires
 write-requires c =
-    let w = c.write-lower in
     let r = c.rules_of-rules.ensures in
-    let h : w.result < length c.args.keys.now = middle_fits _ _ _ _ _ _ r _ _ c.requires _ w.ensures.0 in
-    (tt, (c.requires.high, (omega (arith, h, c.requires.most, c.well-formed.1.1.1.1.1.1.1.1.0), (simp length-set (omega (arith, second_fits _ _ _ _ _ _ r _ _ c.requires _ w.ensures.0, w.auto.1.1.1.1.1.1.1.1.1.1.0)), simp length-set (omega (arith, c.requires.same, w.auto.1.1.1.1.1.1.1.1.1.1.0, w.auto.1.1.1.1.1.1.1.1.1.1.1.0))))))
+    let h : c.write-lower.result < length c.args.keys.now = middle_fits _ _ _ _ _ _ r _ _ c.requires _ c.write-lower.ensures.value in
+    record { span_fits = tt; above_lt_longest_path = c.requires.high; count_bound = omega (arith, h, c.requires.most, c.well-formed.1.1.1.1.1.1.1.1.0); r_in_bounds = simp length-set (omega (arith, second_fits _ _ _ _ _ _ r _ _ c.requires _ c.write-lower.ensures.value, c.write-lower.auto.1.1.1.1.1.1.1.1.1.1.0)); payloads_len = simp length-set (omega (arith, c.requires.same, c.write-lower.auto.1.1.1.1.1.1.1.1.1.1.0, c.write-lower.auto.1.1.1.1.1.1.1.1.1.1.1.0)) }
 
 pub returns : goal.returns
 returns c =
-    let w = c.write-lower.ensures in
-    let v = c.write.ensures in
-    gathered _ _ _ _ _ _ c.rules_of-rules.ensures _ _ c.requires _ w.0 _ v.0 _ _ _ _ _ w.1.0 w.1.1 v.1.0 v.1.1
+    gathered _ _ _ _ _ _ c.rules_of-rules.ensures _ _ c.requires _ c.write-lower.ensures.value _ c.write.ensures.value _ _ _ _ _ c.write-lower.ensures.keys_after c.write-lower.ensures.payloads_after c.write.ensures.keys_after c.write.ensures.payloads_after
 
 -- MISS
 -- same_length : tie.Need-same-length

@@ -8,7 +8,7 @@ use Rattle.rebuild.proofs.rebuild.Goals as goal
 
 pub build_in_place-built-requires : goal.build_in_place-built-requires
 build_in_place-built-requires c =
-    (gathered_judgeable _ _ _ _ _ _ _ c.requires _ _ _ c.gather-n.ensures, (omega (arith, c.requires.gather.high), judged_sound _ _ _ _ _ _ c.requires))
+    record { judgeable = gathered_judgeable _ _ _ _ _ _ _ c.requires _ _ _ c.gather-n.ensures; above_le_longest_path = omega (arith, c.requires.gather.high); sound = judged_sound _ _ _ _ _ _ c.requires }
 
 pub wipe-requires : goal.wipe-requires
 wipe-requires c = omega (arith, within-keys _ _ _ _ _ _ _ c.requires _ _ _ c.gather-n.ensures)

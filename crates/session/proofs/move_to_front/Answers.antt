@@ -28,14 +28,10 @@ pub loop-i-smaller : goal.loop-i-smaller
 loop-i-smaller c = omega arith
 
 pub loop-i-preserved : goal.loop-i-preserved
-loop-i-preserved c = let a = c.args in
-    let l = c.loop-i in
-    (moved_next a.input.now a.from l.input l.i l.invariant.0 (omega arith), omega arith)
+loop-i-preserved c = (moved_next c.args.input.now c.args.from c.loop-i.input c.loop-i.i c.loop-i.invariant.0 (omega arith), omega arith)
 
 pub returns : goal.returns
-returns c = let a = c.args in
-    let l = c.loop-i in
-    moved_all a.input.now a.from a.to l.input l.i l.invariant.0 (omega arith) (omega arith) (omega arith) (omega arith)
+returns c = moved_all c.args.input.now c.args.from c.args.to c.loop-i.input c.loop-i.i c.loop-i.invariant.0 (omega arith) (omega arith) (omega arith) (omega arith)
 
 -- MISS
 -- same_length : tie.Need-same-length invariant-loop decreases-loop

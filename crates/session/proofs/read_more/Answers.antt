@@ -8,8 +8,7 @@ use Rattle.session.proofs.read_more.Lts as lts
 use Rattle.session.proofs.read_more.Goals as goal
 
 pub returns : goal.returns
-returns c = let a = c.args in
-    let y = c.read-got.new.1.0 in
-    let rest = length a.input.now - a.held in
-    let after = put_mid a.held rest a.input.now y in
-    (take_put a.held rest a.input.now y c.requires, omega (arith, c.count.ensures.0.0, mid_len a.held (length after) after (omega arith), same_length c, c.requires))
+returns c = let y = c.read-got.new.1.0 in
+    let rest = length c.args.input.now - c.args.held in
+    let after = put_mid c.args.held rest c.args.input.now y in
+    record { input_unchanged = take_put c.args.held rest c.args.input.now y c.requires; result_in_bounds = omega (arith, c.count.ensures.0.0, mid_len c.args.held (length after) after (omega arith), same_length c, c.requires) }

@@ -17,13 +17,13 @@ pub returns-in-Output : goal.returns-in-Output
 returns-in-Output c = record { over_is = search rules; handle = refl; offset = refl; held = refl; more = omega arith; room = search rules; none = λ t. refl; ended = λ e. (refl, e) }
 
 pub returns-else-stage : goal.returns-else-stage
-returns-else-stage c = let f = c.read_more-more in record {
+returns-else-stage c = record {
   over_is = search rules;
   handle = refl;
   offset = refl;
-  held = f.ensures.0;
+  held = c.read_more-more.ensures.input_unchanged;
   more = omega arith;
-  room = f.ensures.1;
-  none = λ t. omega (arith, ltb-true f.result 1 t);
+  room = c.read_more-more.ensures.result_in_bounds;
+  none = λ t. omega (arith, ltb-true c.read_more-more.result 1 t);
   ended = λ e. absurd (true_not_false (sym e ∙ c.if-stage.false));
 }

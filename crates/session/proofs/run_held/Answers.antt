@@ -12,27 +12,20 @@ use Rattle.session.proofs.run_held.Lts as lts
 use Rattle.session.proofs.run_held.Goals as goal
 
 pub slice_bounds-run-end-2 : goal.slice_bounds-run-end-2
-slice_bounds-run-end-2 c = sym (length-take-le c.args.stage.held c.args.input.now c.requires.0.0)
+slice_bounds-run-end-2 c = sym (length-take-le c.args.stage.held c.args.input.now c.requires.held_in_bounds.0)
 
 pub run-ran-requires : goal.run-ran-requires
-run-ran-requires c = (omega (arith, c.requires.0.1, length-take-le c.args.stage.held c.args.input.now c.requires.0.0), c.requires.1)
+run-ran-requires c = record { input_bound = omega (arith, c.requires.held_in_bounds.1, length-take-le c.args.stage.held c.args.input.now c.requires.held_in_bounds.0); listed_keys_len_bound = c.requires.listed_keys_len_bound }
 
 pub move_to_front-requires : goal.move_to_front-requires
-move_to_front-requires c = (omega (arith, c.run-ran.ensures.1.1, length-take-le c.args.stage.held c.args.input.now c.requires.0.0), c.requires.0.0)
+move_to_front-requires c = (omega (arith, c.run-ran.ensures.printed_in_bounds, length-take-le c.args.stage.held c.args.input.now c.requires.held_in_bounds.0), c.requires.held_in_bounds.0)
 
 pub returns : goal.returns
-returns c = let a = c.args in
-    let r = c.run-ran in
-    let l = length-take-le c.args.stage.held c.args.input.now c.requires.0.0 in (
-      turned a.stage.offset a.stage.held r.result.taken a.input.now c.move_to_front.new.0 (take r.result.printed r.new.1.1.1.1.1.1.1.1.1.1.1.1.0) a.stage.last r.result.pause
-          (state a.stage.handle (mem a.nodes.now a.slots.now a.used.now) (scratch a.keys.now a.payloads.now a.places.now) a.listed-keys.now a.listed-payloads.now)
+returns c = let r = c.run-ran in
+    let l = length-take-le c.args.stage.held c.args.input.now c.requires.held_in_bounds.0 in record { runs_to = turned c.args.stage.offset c.args.stage.held r.result.taken c.args.input.now c.move_to_front.new.0 (take r.result.printed r.new.1.1.1.1.1.1.1.1.1.1.1.1.0) c.args.stage.last r.result.pause
+          (state c.args.stage.handle (mem c.args.nodes.now c.args.slots.now c.args.used.now) (scratch c.args.keys.now c.args.payloads.now c.args.places.now) c.args.listed-keys.now c.args.listed-payloads.now)
           (state r.result.handle (mem r.new.1.1.1.1.0 r.new.1.1.1.1.1.0 r.new.1.1.1.1.1.1.0) (scratch r.new.1.1.1.1.1.1.1.0 r.new.1.1.1.1.1.1.1.1.0 r.new.1.1.1.1.1.1.1.1.1.0) r.new.1.1.1.1.1.1.1.1.1.1.0 r.new.1.1.1.1.1.1.1.1.1.1.1.0)
-          r.ensures.0 c.move_to_front.ensures,
-      (
-        rests_moved r.result.pause c.args.stage.last r.result.taken _ c.args.stage.held l (omega (arith, r.ensures.1.1, l)) r.ensures.1.0,
-        ((omega (arith, r.ensures.1.1, l), refl), (r.ensures.1.1.0, omega arith)),
-      ),
-    )
+          r.ensures.0 c.move_to_front.ensures; rests = rests_moved r.result.pause c.args.stage.last r.result.taken _ c.args.stage.held l (omega (arith, r.ensures.1.1, l)) r.ensures.1.0; held_value = (omega (arith, r.ensures.1.1, l), refl); printed_in_bounds = (r.ensures.1.1.0, omega arith) }
 
 -- MISS
 -- add-t40 : tie.Need-overflow-add-t40

@@ -17,26 +17,21 @@ use Rattle.session.proofs.talk.Lts as lts
 use Rattle.session.proofs.talk.Goals as goal
 
 pub loop-turns-init : goal.loop-turns-init
-loop-turns-init c = let a = c.args in
-    (nothing_yet a.input.now _ c.requires.0, ((omega arith, omega arith), (refl, (refl, (refl, (refl, (refl, (refl, (refl, (refl, (refl, refl)))))))))))
+loop-turns-init c = (nothing_yet c.args.input.now _ c.requires.listed_payloads_value, ((omega arith, omega arith), (refl, (refl, (refl, (refl, (refl, (refl, (refl, (refl, (refl, refl)))))))))))
 
 pub run_held-t-requires : goal.run_held-t-requires
 run_held-t-requires c = let l = c.loop-turns in
-    let k = first-lists _ c.requires.0 in
-    ((l.invariant.1.0.0, omega (arith, l.invariant.1.0)), (omega (arith, k.0, l.invariant.1.1.1.1.1.1.1.1.0), omega (arith, k, l.invariant.1.1.1.1.1.1.1.1.0, l.invariant.1.1.1.1.1.1.1.1.1.0)))
+    let k = first-lists _ c.requires.listed_payloads_value in
+    record { held_in_bounds = (l.invariant.1.0.0, omega (arith, l.invariant.1.0)); listed_keys_len_bound = (omega (arith, k.0, l.invariant.1.1.1.1.1.1.1.1.0), omega (arith, k, l.invariant.1.1.1.1.1.1.1.1.0, l.invariant.1.1.1.1.1.1.1.1.1.0)) }
 
 pub slice_bounds-write_all-end : goal.slice_bounds-write_all-end
-slice_bounds-write_all-end c = let f = c.run_held-t in
-    omega (arith, f.ensures.1.1.1.0, f.auto.1.1.1.1.1.1.1.1.1.1.0)
+slice_bounds-write_all-end c = omega (arith, c.run_held-t.ensures.printed_in_bounds.0, c.run_held-t.auto.1.1.1.1.1.1.1.1.1.1.0)
 
 pub slice_bounds-write_all-end-in-loop-turns : goal.slice_bounds-write_all-end-in-loop-turns
-slice_bounds-write_all-end-in-loop-turns c = let f = c.run_held-t in
-    sym (length-take-le f.result.printed f.new.1.1.1.1.1.1.1.1.1.1.0 (omega (arith, f.ensures.1.1.1.0, f.auto.1.1.1.1.1.1.1.1.1.1.0)))
+slice_bounds-write_all-end-in-loop-turns c = sym (length-take-le c.run_held-t.result.printed c.run_held-t.new.1.1.1.1.1.1.1.1.1.1.0 (omega (arith, c.run_held-t.ensures.printed_in_bounds.0, c.run_held-t.auto.1.1.1.1.1.1.1.1.1.1.0)))
 
 pub refill-next-requires : goal.refill-next-requires
-refill-next-requires c = let f = c.run_held-t in
-    let l = c.loop-turns in
-    (omega (arith, f.ensures.1.1.1.1, l.invariant.1.0.0, f.auto.1.0), f.ensures.1.0)
+refill-next-requires c = (omega (arith, c.run_held-t.ensures.printed_in_bounds.1, c.loop-turns.invariant.1.0.0, c.run_held-t.auto.1.0), c.run_held-t.ensures.rests)
 
 pub overflow_sub-turns : goal.overflow_sub-turns
 overflow_sub-turns c = omega (arith, c.loop-turns-test.true)
@@ -45,18 +40,17 @@ pub loop-turns-smaller : goal.loop-turns-smaller
 loop-turns-smaller c = omega (arith, c.loop-turns-test.true)
 
 pub loop-turns-preserved : goal.loop-turns-preserved
-loop-turns-preserved c = let l = c.loop-turns in
-    let f = c.run_held-t in
+loop-turns-preserved c = let f = c.run_held-t in
     let g = c.refill-next in (
-      carried l.stage.last l.stage.offset (take l.stage.held l.input) (state l.stage.handle (mem l.nodes l.slots l.used) (scratch l.keys l.payloads l.places) l.listed-keys l.listed-payloads)
+      carried c.loop-turns.stage.last c.loop-turns.stage.offset (take c.loop-turns.stage.held c.loop-turns.input) (state c.loop-turns.stage.handle (mem c.loop-turns.nodes c.loop-turns.slots c.loop-turns.used) (scratch c.loop-turns.keys c.loop-turns.payloads c.loop-turns.places) c.loop-turns.listed-keys c.loop-turns.listed-payloads)
           (take f.result.printed f.new.1.1.1.1.1.1.1.1.1.1.0) f.result.pause f.result.stage g.result.stage g.result.over f.new.1.0 g.new.1.1.0
-          (λ h. state h (mem f.new.1.1.0 f.new.1.1.1.0 f.new.1.1.1.1.0) (scratch f.new.1.1.1.1.1.0 f.new.1.1.1.1.1.1.0 f.new.1.1.1.1.1.1.1.0) f.new.1.1.1.1.1.1.1.1.0 f.new.1.1.1.1.1.1.1.1.1.0) l.invariant.0 f.ensures.0 f.ensures.1.1.0.1 g.ensures c.if-next.false,
+          (λ h. state h (mem f.new.1.1.0 f.new.1.1.1.0 f.new.1.1.1.1.0) (scratch f.new.1.1.1.1.1.0 f.new.1.1.1.1.1.1.0 f.new.1.1.1.1.1.1.1.0) f.new.1.1.1.1.1.1.1.1.0 f.new.1.1.1.1.1.1.1.1.1.0) c.loop-turns.invariant.0 f.ensures.0 f.ensures.1.1.0.1 g.ensures c.if-next.false,
       (
         (
           omega (arith, g.ensures.room, g.auto.1.1.0),
-          omega (arith, g.ensures.room, g.ensures.offset, f.ensures.1.1.0.0, l.invariant.1.0, f.auto.1.0, l.invariant.1.1.1.1.1.1.1.1.1.1.0, c.requires.1.0, c.loop-turns-test.true),
+          omega (arith, g.ensures.room, g.ensures.offset, f.ensures.1.1.0.0, c.loop-turns.invariant.1.0, f.auto.1.0, c.loop-turns.invariant.1.1.1.1.1.1.1.1.1.1.0, c.requires.input_len.0, c.loop-turns-test.true),
         ),
-        (f.auto.1.1.0 ∙ l.invariant.1.1.0, (f.auto.1.1.1.0 ∙ l.invariant.1.1.1.0, (f.auto.1.1.1.1.0 ∙ l.invariant.1.1.1.1.0, (f.auto.1.1.1.1.1.0 ∙ l.invariant.1.1.1.1.1.0, (f.auto.1.1.1.1.1.1.0 ∙ l.invariant.1.1.1.1.1.1.0, (f.auto.1.1.1.1.1.1.1.0 ∙ l.invariant.1.1.1.1.1.1.1.0, (f.auto.1.1.1.1.1.1.1.1.0 ∙ l.invariant.1.1.1.1.1.1.1.1.0, (f.auto.1.1.1.1.1.1.1.1.1.0 ∙ l.invariant.1.1.1.1.1.1.1.1.1.0, (g.auto.1.1.0 ∙ f.auto.1.0 ∙ l.invariant.1.1.1.1.1.1.1.1.1.1.0, f.auto.1.1.1.1.1.1.1.1.1.1.0 ∙ l.invariant.1.1.1.1.1.1.1.1.1.1.1))))))))),
+        (f.auto.1.1.0 ∙ c.loop-turns.invariant.1.1.0, (f.auto.1.1.1.0 ∙ c.loop-turns.invariant.1.1.1.0, (f.auto.1.1.1.1.0 ∙ c.loop-turns.invariant.1.1.1.1.0, (f.auto.1.1.1.1.1.0 ∙ c.loop-turns.invariant.1.1.1.1.1.0, (f.auto.1.1.1.1.1.1.0 ∙ c.loop-turns.invariant.1.1.1.1.1.1.0, (f.auto.1.1.1.1.1.1.1.0 ∙ c.loop-turns.invariant.1.1.1.1.1.1.1.0, (f.auto.1.1.1.1.1.1.1.1.0 ∙ c.loop-turns.invariant.1.1.1.1.1.1.1.1.0, (f.auto.1.1.1.1.1.1.1.1.1.0 ∙ c.loop-turns.invariant.1.1.1.1.1.1.1.1.1.0, (g.auto.1.1.0 ∙ f.auto.1.0 ∙ c.loop-turns.invariant.1.1.1.1.1.1.1.1.1.1.0, f.auto.1.1.1.1.1.1.1.1.1.1.0 ∙ c.loop-turns.invariant.1.1.1.1.1.1.1.1.1.1.1))))))))),
       ),
     )
 

@@ -22,13 +22,6 @@ use Rattle.sounding.proofs.pack.Goals as goal
 depth-reads : (s : tie.Start) → to_z w64 (of_z w64 s.args.depth) ≡ s.args.depth
 depth-reads s = to_z-of_z w64 s.args.depth s.ranges.depth
 
--- A test is taken from the code's bound to document 01's: a wrong bound fails at the fact that it breaks, and at no other.
-returns : tie.Need-returns
-unfolding packed
-returns c =
-    let h : c.before.args.depth <ℤ least_depth = <ℤ-≤ℤ_trans (lt_z_true (rw (depth-reads c.before) at c.if1.true)) (le_z_yes tt) in
-    sym (shoaler_than_the_least _ _ h)
-
 -- past the tests the depth is in range, and what the code counts from the least one is `above`
 module _ (c : tie.Else3) where
   abbrev depth : ℤ
@@ -46,6 +39,13 @@ module _ (c : tie.Else3) where
   -- small wherever the code counts from: only the key depends on the 20,000
   small : (o : ℕ) → leb 20000 o ≡ true → ltb o (2 ^ 32) ≡ true → nat_abs (to_z w64 (of_z w64 (to_z w64 (of_z w64 depth) +ℤ pos o))) < 2 ^ 35
   small o from upto = difference_small depth c.before.before.before.ranges.depth least most o (leb-true 20000 o from) (ltb-true o (2 ^ 32) upto)
+
+-- A test is taken from the code's bound to document 01's: a wrong bound fails at the fact that it breaks, and at no other.
+pub returns-then-depth-lt-LEAST_DEPTH : goal.returns-then-depth-lt-LEAST_DEPTH
+unfolding packed
+returns-then-depth-lt-LEAST_DEPTH c =
+    let h : c.args.depth <ℤ least_depth = <ℤ-≤ℤ_trans (lt_z_true (rw (depth-reads c) at c.if-depth-lt-LEAST_DEPTH.true)) (le_z_yes tt) in
+    sym (shoaler_than_the_least _ _ h)
 
 pub returns-then-depth-gt-MOST_DEPTH : goal.returns-then-depth-gt-MOST_DEPTH
 unfolding packed

@@ -16,20 +16,16 @@ loop-i-init c = (omega arith, omega arith, refl)
 
 pub returns-then-k-ge-BOUND : goal.returns-then-k-ge-BOUND
 returns-then-k-ge-BOUND c =
-    let l = c.loop-i in
-    fault_range _ _ _ _ l.invariant.2 (omega arith) c.if-k-ge-BOUND.true
+    fault_range _ _ _ _ c.loop-i.invariant.2 (omega arith) c.if-k-ge-BOUND.true
 
 pub returns-then-k-least : goal.returns-then-k-least
 returns-then-k-least c =
-    let l = c.loop-i in
-    fault_fall _ _ _ _ l.invariant.2 (omega arith) (omega arith) c.if-k-least.true
+    fault_fall _ _ _ _ c.loop-i.invariant.2 (omega arith) (omega arith) c.if-k-least.true
 
 pub loop-i-preserved : goal.loop-i-preserved
 loop-i-preserved c =
-    let l = c.loop-i in
-    (omega arith, omega arith, fault_on _ _ _ _ l.invariant.2 (omega arith) (omega arith) c.if-k-least.false)
+    (omega arith, omega arith, fault_on _ _ _ _ c.loop-i.invariant.2 (omega arith) (omega arith) c.if-k-least.false)
 
 pub returns : goal.returns
 returns c =
-    let l = c.loop-i in
-    fault_none _ _ _ _ l.invariant.2 c.loop-i-test.false
+    fault_none _ _ _ _ c.loop-i.invariant.2 c.loop-i-test.false

@@ -12,24 +12,12 @@ use Rattle.store.proofs.load_afresh.Goals as goal
 
 pub build_node-g-requires : goal.build_node-g-requires
 build_node-g-requires c =
-    let l = c.requires.0 in (
-      l.rising,
-      (
-        l.same,
-        (
-          l.few,
-          (
-            empty-sized 0 _ _ _ l _ c.empty_pools.ensures,
-            record { record-within = omega arith; slot-within = omega arith; records-used = λ r h. absurd (omega arith); slots-used = λ q h. absurd (omega arith) },
-          ),
-        ),
-      ),
-    )
+    let l = c.requires.loadable in record { rising = l.rising; payloads_len = l.same; keys_len_bound = l.few; sized = empty-sized 0 _ _ _ l _ c.empty_pools.ensures; hinted = record { record-within = omega arith; slot-within = omega arith; records-used = λ r h. absurd (omega arith); slots-used = λ q h. absurd (omega arith) } }
 
 pub returns-in-At : goal.returns-in-At
 returns-in-At c =
     let g = c.build_node-g in
-    load-done _ _ _ _ c.requires.0 c.requires.1 g.result.built _
+    load-done _ _ _ _ c.requires.loadable c.requires.roomy g.result.built _
     (g.ensures.is ∙ ap (λ (m : Mem). build longest_path c.args.keys.now c.args.payloads.now m) c.empty_pools.ensures)
     _ _ c.b-1.given.1 c.new.ensures
 
@@ -37,5 +25,5 @@ pub returns-in-NoRoom : goal.returns-in-NoRoom
 returns-in-NoRoom c =
     let g = c.build_node-g in
     let e : g.result.built ≡ NoRoom = cc in
-    absurd (load_cannot 0 _ _ _ c.requires.0 c.requires.1 g.result.built _
+    absurd (load_cannot 0 _ _ _ c.requires.loadable c.requires.roomy g.result.built _
     (g.ensures.is ∙ ap (λ (m : Mem). build longest_path c.args.keys.now c.args.payloads.now m) c.empty_pools.ensures) e)

@@ -10,7 +10,7 @@ use Rattle.store.proofs.load_rising.Goals as goal
 pub sizes-needs-requires : goal.sizes-needs-requires
 sizes-needs-requires c =
     let l = c.requires in
-    (l.rising, (l.few, omega (arith, l.few)))
+    record { rising = l.rising; keys_len_bound = l.few; keys_bound = omega (arith, l.few) }
 
 pub returns-then-nodes-needs : goal.returns-then-nodes-needs
 unfolding needs_of
@@ -29,7 +29,7 @@ unfolding needs_of
 load_afresh-requires c =
     let e = ap (λ (n : Needs). n.nodes) c.sizes-needs.ensures.needs in
     let f = ap (λ (n : Needs). n.slots) c.sizes-needs.ensures.needs in
-    (c.requires, record { nodes = omega (arith, e, c.if-nodes-needs.false); slots = omega (arith, f, c.if-slots-needs.false) })
+    record { loadable = c.requires; roomy = record { nodes = omega (arith, e, c.if-nodes-needs.false); slots = omega (arith, f, c.if-slots-needs.false) } }
 
 pub returns : goal.returns
 returns c = c.load_afresh.ensures

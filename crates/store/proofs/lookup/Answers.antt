@@ -27,23 +27,20 @@ returns-in-NotThere c = lookup_by _ _ _ _ (sym c.visits-1.given.1 ∙ c.find.ens
 pub returns-in-OutOfRange : goal.returns-in-OutOfRange
 unfolding looked
 returns-in-OutOfRange c =
-    let r = c.find in
-    let e : r.result ≡ OutOfRange = cc in
-    lookup_by _ _ _ OutOfRange (sym e ∙ r.ensures)
+    let e : c.find.result ≡ OutOfRange = cc in
+    lookup_by _ _ _ OutOfRange (sym e ∙ c.find.ensures)
 
 pub returns-in-WrongSizes : goal.returns-in-WrongSizes
 unfolding looked
 returns-in-WrongSizes c =
-    let r = c.find in
-    let e : r.result ≡ WrongSizes = cc in
-    lookup_by _ _ _ WrongSizes (sym e ∙ r.ensures)
+    let e : c.find.result ≡ WrongSizes = cc in
+    lookup_by _ _ _ WrongSizes (sym e ∙ c.find.ensures)
 
 pub returns-in-Damage : goal.returns-in-Damage
 unfolding looked
 returns-in-Damage c =
-    let r = c.find in
-    let e : r.result ≡ Damage = cc in
-    lookup_by _ _ _ Damage (sym e ∙ r.ensures)
+    let e : c.find.result ≡ Damage = cc in
+    lookup_by _ _ _ Damage (sym e ∙ c.find.ensures)
 
 -- MISS
 -- shared-slice-read-t15 : tie.Need-shared-slice-read-t15

@@ -30,20 +30,17 @@ returns-in-NotThere c = rw c.new-in-NotThere.ensures (replace_by _ _ _ _ (sym c.
 pub returns-in-OutOfRange : goal.returns-in-OutOfRange
 unfolding changed
 returns-in-OutOfRange c =
-    let r = c.find in
-    let e : r.result ≡ OutOfRange = cc in
-    rw c.new-in-OutOfRange.ensures (replace_by _ _ _ OutOfRange (sym e ∙ r.ensures) _)
+    let e : c.find.result ≡ OutOfRange = cc in
+    rw c.new-in-OutOfRange.ensures (replace_by _ _ _ OutOfRange (sym e ∙ c.find.ensures) _)
 
 pub returns-in-WrongSizes : goal.returns-in-WrongSizes
 unfolding changed
 returns-in-WrongSizes c =
-    let r = c.find in
-    let e : r.result ≡ WrongSizes = cc in
-    rw c.new-in-WrongSizes.ensures (replace_by _ _ _ WrongSizes (sym e ∙ r.ensures) _)
+    let e : c.find.result ≡ WrongSizes = cc in
+    rw c.new-in-WrongSizes.ensures (replace_by _ _ _ WrongSizes (sym e ∙ c.find.ensures) _)
 
 pub returns-in-Damage : goal.returns-in-Damage
 unfolding changed
 returns-in-Damage c =
-    let r = c.find in
-    let e : r.result ≡ Damage = cc in
-    rw c.new-in-Damage.ensures (replace_by _ _ _ Damage (sym e ∙ r.ensures) _)
+    let e : c.find.result ≡ Damage = cc in
+    rw c.new-in-Damage.ensures (replace_by _ _ _ Damage (sym e ∙ c.find.ensures) _)

@@ -16,17 +16,12 @@ step_at-requires c = c.requires
 
 pub loop-visits-preserved : goal.loop-visits-preserved
 loop-visits-preserved c =
-    let l = c.loop-visits in
-    let s = c.step_at in
-    (omega arith, follow_down _ _ _ _ _ l.invariant.1 _ (omega arith) (sym c.c-1.given.1 ∙ s.ensures))
+    (omega arith, follow_down _ _ _ _ _ c.loop-visits.invariant.1 _ (omega arith) (sym c.c-1.given.1 ∙ c.step_at.ensures))
 
 pub returns-in-Stop : goal.returns-in-Stop
 returns-in-Stop c =
-    let l = c.loop-visits in
-    let s = c.step_at in
-    follow_stop _ _ _ _ _ l.invariant.1 _ (omega arith) (sym c.end-1.given.1 ∙ s.ensures)
+    follow_stop _ _ _ _ _ c.loop-visits.invariant.1 _ (omega arith) (sym c.end-1.given.1 ∙ c.step_at.ensures)
 
 pub returns : goal.returns
 returns c =
-    let l = c.loop-visits in
-    follow_spent _ _ _ _ _ l.invariant.1 (omega arith)
+    follow_spent _ _ _ _ _ c.loop-visits.invariant.1 (omega arith)

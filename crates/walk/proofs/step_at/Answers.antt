@@ -7,16 +7,13 @@ use Rattle.walk.proofs.step_at.Goals as goal
 
 pub step_in-requires : goal.step_in-requires
 step_in-requires c =
-    let r = c.node_at in
-    let g = good-node _ _ _ (sym r.ensures ∙ c.n-1.given.1) in
-    (c.requires, (g.range, g.fits))
+    let g = good-node _ _ _ (sym c.node_at.ensures ∙ c.n-1.given.1) in
+    record { key_lt_key_bound = c.requires; in_range = g.range; l_bound = g.fits }
 
 pub returns-in-Good : goal.returns-in-Good
 returns-in-Good c =
-    let r = c.node_at in
-    step-good _ _ _ _ _ (sym r.ensures ∙ c.n-1.given.1) c.step_in.ensures
+    step-good _ _ _ _ _ (sym c.node_at.ensures ∙ c.n-1.given.1) c.step_in.ensures
 
 pub returns-in-Broken : goal.returns-in-Broken
 returns-in-Broken c =
-    let r = c.node_at in
-    step-broken _ _ _ _ (sym r.ensures ∙ c.b-1.given.1)
+    step-broken _ _ _ _ (sym c.node_at.ensures ∙ c.b-1.given.1)

@@ -9,34 +9,25 @@ use Rattle.walk.proofs.step_in.Goals as goal
 
 pub returns-then-slots-q : goal.returns-then-slots-q
 returns-then-slots-q c =
-    let r = c.slot_of-j in
-    step-found _ _ _ r.result _ r.ensures.0 refl (omega arith) c.if-slots-q.true
+    step-found _ _ _ c.slot_of-j.result _ c.slot_of-j.ensures.0 refl (omega arith) c.if-slots-q.true
 
 pub returns-in-Null : goal.returns-in-Null
 unfolding step_in
 returns-in-Null c =
-    let r = c.slot_of-j in
-    let s = c.slot_at in
-    let e : s.result ≡ Null = cc in
-    step-says _ _ _ r.result _ r.ensures.0 refl Null (sym e ∙ s.ensures)
+    let e : c.slot_at.result ≡ Null = cc in
+    step-says _ _ _ c.slot_of-j.result _ c.slot_of-j.ensures.0 refl Null (sym e ∙ c.slot_at.ensures)
 
 pub returns-in-Data : goal.returns-in-Data
 unfolding step_in
 returns-in-Data c =
-    let r = c.slot_of-j in
-    let s = c.slot_at in
-    step-says _ _ _ r.result _ r.ensures.0 refl _ (sym c.k-1.given.1 ∙ s.ensures)
+    step-says _ _ _ c.slot_of-j.result _ c.slot_of-j.ensures.0 refl _ (sym c.k-1.given.1 ∙ c.slot_at.ensures)
 
 pub returns-in-Child : goal.returns-in-Child
 unfolding step_in
 returns-in-Child c =
-    let r = c.slot_of-j in
-    let s = c.slot_at in
-    step-says _ _ _ r.result _ r.ensures.0 refl _ (sym c.c-1.given.1 ∙ s.ensures)
+    step-says _ _ _ c.slot_of-j.result _ c.slot_of-j.ensures.0 refl _ (sym c.c-1.given.1 ∙ c.slot_at.ensures)
 
 pub returns-in-Broken : goal.returns-in-Broken
 unfolding step_in
 returns-in-Broken c =
-    let r = c.slot_of-j in
-    let s = c.slot_at in
-    step-says _ _ _ r.result _ r.ensures.0 refl _ (sym c.b-1.given.1 ∙ s.ensures)
+    step-says _ _ _ c.slot_of-j.result _ c.slot_of-j.ensures.0 refl _ (sym c.b-1.given.1 ∙ c.slot_at.ensures)

@@ -16,29 +16,25 @@ loop-path-init c = (rw (empty-len _ c.new-path.ensures) (omega arith), empty-nod
 pub returns-in-Broken : goal.returns-in-Broken
 unfolding push
 returns-in-Broken c =
-    let l = c.loop-path in
-    trace_stop _ _ _ _ _ l.invariant.2 _ (omega arith) (step-broken _ _ _ _ (sym c.node_at.ensures ∙ c.b-1.given.1))
+    trace_stop _ _ _ _ _ c.loop-path.invariant.2 _ (omega arith) (step-broken _ _ _ _ (sym c.node_at.ensures ∙ c.b-1.given.1))
 
 pub step_in-requires : goal.step_in-requires
 step_in-requires c =
     let g = good-node _ _ _ (sym c.node_at.ensures ∙ c.n-1.given.1) in
-    (c.requires, (g.range, g.fits))
+    record { key_lt_key_bound = c.requires; in_range = g.range; l_bound = g.fits }
 
 pub loop-path-preserved : goal.loop-path-preserved
 unfolding push
 loop-path-preserved c =
-    let l = c.loop-path in
     let s = step-good _ _ _ _ _ (sym c.node_at.ensures ∙ c.n-1.given.1) c.step_in.ensures in
-    (omega arith, simp length-set l.invariant.1, trace_down _ _ _ _ _ l.invariant.2 _ (omega arith) (sym c.c-1.given.1 ∙ s))
+    (omega arith, simp length-set c.loop-path.invariant.1, trace_down _ _ _ _ _ c.loop-path.invariant.2 _ (omega arith) (sym c.c-1.given.1 ∙ s))
 
 pub returns-in-Stop : goal.returns-in-Stop
 unfolding push
 returns-in-Stop c =
-    let l = c.loop-path in
     let s = step-good _ _ _ _ _ (sym c.node_at.ensures ∙ c.n-1.given.1) c.step_in.ensures in
-    trace_stop _ _ _ _ _ l.invariant.2 _ (omega arith) (sym c.end-1.given.1 ∙ s)
+    trace_stop _ _ _ _ _ c.loop-path.invariant.2 _ (omega arith) (sym c.end-1.given.1 ∙ s)
 
 pub returns : goal.returns
 returns c =
-    let l = c.loop-path in
-    trace_spent _ _ _ _ _ l.invariant.2 (omega arith)
+    trace_spent _ _ _ _ _ c.loop-path.invariant.2 (omega arith)

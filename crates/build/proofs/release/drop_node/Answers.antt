@@ -7,7 +7,4 @@ pub returns : goal.returns
 unfolding drop_node
 returns c =
     let run = c.zero_run in
-    let node = c.zero_record in
-    let places = c.clear_run in
-    let place = c.clear in
-    rw (run.ensures, node.ensures, place.ensures, places.ensures)
+    rw (run.ensures, c.zero_record.ensures, c.clear.ensures, c.clear_run.ensures)

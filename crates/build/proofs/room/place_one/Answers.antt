@@ -15,9 +15,8 @@ returns-then-records-record c = (spot_no_record _ _ _ _ _ c.first_unused-record.
 
 pub lowest_run-requires : goal.lowest_run-requires
 lowest_run-requires c =
-    let f = c.first_unused-first in
-    let first = first_unused_at c.args.used.now _ _ f.result (sym f.ensures) in
-    (omega (arith, c.requires.0), omega (arith, c.requires.0), c.requires.1.1, first.0, first.1)
+    let first = first_unused_at c.args.used.now _ _ c.first_unused-first.result (sym c.first_unused-first.ensures) in
+    (omega (arith, c.requires.mapped), omega (arith, c.requires.mapped), c.requires.le_l, first.0, first.1)
 
 pub returns-in_default : goal.returns-in_default
 unfolding marked_by

@@ -25,7 +25,7 @@ loop-i-init c =
 pub place_one-requires : goal.place_one-requires
 place_one-requires c =
     let s = c.before.before.before in
-    (going_map _ _ _ _ _ s.requires _ _ _ _ _ c.loop-i.invariant, (c.loop-i.invariant.sought, (going_size _ _ _ _ _ s.requires _ _ _ _ _ c.loop-i.invariant c.loop-i-test.true).0))
+    record { mapped = going_map _ _ _ _ _ s.requires _ _ _ _ _ c.loop-i.invariant; sought = c.loop-i.invariant.sought; le_l = (going_size _ _ _ _ _ s.requires _ _ _ _ _ c.loop-i.invariant c.loop-i-test.true).0 }
 
 pub returns-in_default : goal.returns-in_default
 returns-in_default c =

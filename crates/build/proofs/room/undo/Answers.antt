@@ -31,10 +31,9 @@ clear-requires c =
 
 pub loop-i-preserved : goal.loop-i-preserved
 loop-i-preserved c =
-    let k = c.loop-i in
     let e = c.clear.ensures in
     let d = c.clear_run.ensures in
-    (omega arith, rw (e, clear-length, d, clear_run-length) k.invariant.1, rw (e, d) (undo-step _ _ k.i _ (omega arith) ∙ k.invariant.2))
+    (omega arith, rw (e, clear-length, d, clear_run-length) c.loop-i.invariant.1, rw (e, d) (undo-step _ _ c.loop-i.i _ (omega arith) ∙ c.loop-i.invariant.2))
 
 pub returns : goal.returns
 returns c = sym (undo-end _ _ _ _ c.loop-i-test.false) ∙ c.loop-i.invariant.2

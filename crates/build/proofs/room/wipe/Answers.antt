@@ -17,10 +17,8 @@ loop-i-init c =
 
 pub loop-i-preserved : goal.loop-i-preserved
 loop-i-preserved c =
-    let l = c.loop-i in
-    (simp length-set l.invariant.0, sym (zeros-step l.list l.i _ c.loop-i-test.true) ∙ l.invariant.1)
+    (simp length-set c.loop-i.invariant.0, sym (zeros-step c.loop-i.list c.loop-i.i _ c.loop-i-test.true) ∙ c.loop-i.invariant.1)
 
 pub returns : goal.returns
 returns c =
-    let l = c.loop-i in
-    sym (zeros-end l.list l.i _ c.loop-i-test.false) ∙ l.invariant.1
+    sym (zeros-end c.loop-i.list c.loop-i.i _ c.loop-i-test.false) ∙ c.loop-i.invariant.1

@@ -21,17 +21,14 @@ loop-i-init c =
 
 pub returns-then-k-before : goal.returns-then-k-before
 returns-then-k-before c =
-    let l = c.loop-i in
-    falls_here _ _ _ _ l.invariant.0 (rw (length_in c.args.bytes.now) (omega arith)) l.invariant.2 c.key_at-k.ensures.0 (omega arith) l.invariant.3
+    falls_here _ _ _ _ c.loop-i.invariant.0 (rw (length_in c.args.bytes.now) (omega arith)) c.loop-i.invariant.2 c.key_at-k.ensures.0 (omega arith) c.loop-i.invariant.3
 
 pub loop-i-preserved : goal.loop-i-preserved
 loop-i-preserved c =
-    let l = c.loop-i in
     let k = c.key_at-k.ensures.0 in
-    let e : l.i + 1 - 1 ≡ l.i = omega arith in
-    (omega arith, omega arith, rw e k, falls_step _ _ _ _ l.invariant.0 (rw (length_in c.args.bytes.now) (omega arith)) l.invariant.2 k (omega arith) l.invariant.3)
+    let e : c.loop-i.i + 1 - 1 ≡ c.loop-i.i = omega arith in
+    (omega arith, omega arith, rw e k, falls_step _ _ _ _ c.loop-i.invariant.0 (rw (length_in c.args.bytes.now) (omega arith)) c.loop-i.invariant.2 k (omega arith) c.loop-i.invariant.3)
 
 pub returns : goal.returns
 returns c =
-    let l = c.loop-i in
-    falls_end _ _ _ (rw (length_in c.args.bytes.now) (omega arith)) l.invariant.2 l.invariant.3
+    falls_end _ _ _ (rw (length_in c.args.bytes.now) (omega arith)) c.loop-i.invariant.2 c.loop-i.invariant.3

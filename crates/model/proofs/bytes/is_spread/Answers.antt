@@ -15,17 +15,13 @@ loop-i-init c = (omega arith, counted_none _ _ _)
 
 pub returns-then-t-c : goal.returns-then-t-c
 returns-then-t-c c =
-    let l = c.loop-i in
-    let r = c.slot_of-s in
-    let e = r.ensures.0 ∙ ap (slot_of c.args.m) c.key_at.ensures.0 in
-    counted_full _ _ _ l.i _ l.invariant.1 r.result (rw (length_in c.args.bytes.now) (omega arith)) e (omega arith) r.ensures.1 (omega arith)
+    let e = c.slot_of-s.ensures.0 ∙ ap (slot_of c.args.m) c.key_at.ensures.0 in
+    counted_full _ _ _ c.loop-i.i _ c.loop-i.invariant.1 c.slot_of-s.result (rw (length_in c.args.bytes.now) (omega arith)) e (omega arith) c.slot_of-s.ensures.1 (omega arith)
 
 pub loop-i-preserved : goal.loop-i-preserved
 loop-i-preserved c =
-    let l = c.loop-i in
-    let r = c.slot_of-s in
-    let e = r.ensures.0 ∙ ap (slot_of c.args.m) c.key_at.ensures.0 in
-    (omega arith, counted_more _ _ _ l.i _ l.invariant.1 r.result (rw (length_in c.args.bytes.now) (omega arith)) e (omega arith) (omega arith))
+    let e = c.slot_of-s.ensures.0 ∙ ap (slot_of c.args.m) c.key_at.ensures.0 in
+    (omega arith, counted_more _ _ _ c.loop-i.i _ c.loop-i.invariant.1 c.slot_of-s.result (rw (length_in c.args.bytes.now) (omega arith)) e (omega arith) (omega arith))
 
 pub returns : goal.returns
 returns c =

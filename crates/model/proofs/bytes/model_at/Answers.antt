@@ -13,7 +13,7 @@ pub overflow_sub-w : goal.overflow_sub-w
 overflow_sub-w c =
     let n = length_in c.args.bytes.now in
     rw (c.key_at-lo.ensures.0, c.key_at.ensures.0)
-    (rising_climbs _ c.requires.0 c.args.t (length c.args.bytes.now / 6 - 1 - c.args.t) (omega arith) (rw n (omega arith)))
+    (rising_climbs _ c.requires.rising c.args.t (length c.args.bytes.now / 6 - 1 - c.args.t) (omega arith) (rw n (omega arith)))
 
 pub returns : goal.returns
 unfolding model_at

@@ -20,7 +20,7 @@ returns-then-f-n c = choice_falls _ (omega arith) (omega arith) _ c.first_fall-f
 pub model_of-requires : goal.model_of-requires
 model_of-requires c =
     let b = c.shared_slice_known-1.given in
-    (choice-rising _ (λ i. omega (arith, b i)) _ c.first_fall-f.ensures c.if-f-n.false, omega arith)
+    record { rising = choice-rising _ (λ i. omega (arith, b i)) _ c.first_fall-f.ensures c.if-f-n.false; key_bytes_len_bound = omega arith }
 
 pub returns : goal.returns
 unfolding chosen

@@ -16,10 +16,10 @@ use Rattle.operations.proofs.blocks.run.Lts as lts
 use Rattle.operations.proofs.blocks.run.Goals as goal
 
 pub loop-p-init : goal.loop-p-init
-loop-p-init c = let a = c.args in (
-  printed-first a.input.now a.last a.offset
-      (state a.h (mem a.nodes.now a.slots.now a.used.now) (scratch a.keys.now a.payloads.now a.places.now) a.listed-keys.now a.listed-payloads.now)
-      a.out.now,
+loop-p-init c = (
+  printed-first c.args.input.now c.args.last c.args.offset
+      (state c.args.h (mem c.args.nodes.now c.args.slots.now c.args.used.now) (scratch c.args.keys.now c.args.payloads.now c.args.places.now) c.args.listed-keys.now c.args.listed-payloads.now)
+      c.args.out.now,
   ((omega arith, (omega arith, refl)), ((refl, (refl, refl)), ((refl, (refl, refl)), (refl, refl)))),
 )
 
@@ -28,80 +28,64 @@ overflow_sub-out c = omega (arith, c.loop-p.invariant.1.0)
 
 pub returns-then-out-at-lt-LONGEST_ANSWER : goal.returns-then-out-at-lt-LONGEST_ANSWER
 returns-then-out-at-lt-LONGEST_ANSWER c = let l = c.loop-p in
-    (l.invariant.0, (tt, (omega (arith, l.invariant.1.0), l.invariant.1.0.0)))
+    record { by_index = l.invariant.0; rests = tt; printed_in_bounds = (omega (arith, l.invariant.1.0), l.invariant.1.0.0) }
 
 pub overflow_add-offset : goal.overflow_add-offset
-overflow_add-offset c = omega (arith, c.requires.0, c.loop-p-test.true)
+overflow_add-offset c = omega (arith, c.requires.input_bound, c.loop-p-test.true)
 
 pub line_of_one-end-requires : goal.line_of_one-end-requires
 line_of_one-end-requires c = omega (arith, c.if-out-at-lt-LONGEST_ANSWER.false, c.loop-p.invariant.1.0)
 
 pub returns-in_default : goal.returns-in_default
 unfolding end_line
-returns-in_default c = let l = c.loop-p in
-    let e = c.line_of_one-end.ensures in
-    let k = c.kind_of.ensures in (
-      printed-unknown _ _ _ _ _ _ _ _ l.invariant.0 c.loop-p-test.true _ _ (sym k ∙ unknown-told _ c.in_default.keys2) e.0 (omega (arith, e.1.0, c.if-out-at-lt-LONGEST_ANSWER.false, l.invariant.1.0)),
-      (tt, (omega (arith, e.1.0, c.if-out-at-lt-LONGEST_ANSWER.false, l.invariant.1.0), l.invariant.1.0.0)),
-    )
+returns-in_default c = let k = c.kind_of.ensures in record { by_index = printed-unknown _ _ _ _ _ _ _ _ c.loop-p.invariant.0 c.loop-p-test.true _ _ (sym k ∙ unknown-told _ c.in_default.keys2) c.line_of_one-end.ensures.result_after (omega (arith, c.line_of_one-end.ensures.upper_bound.0, c.if-out-at-lt-LONGEST_ANSWER.false, c.loop-p.invariant.1.0)); rests = tt; printed_in_bounds = (omega (arith, c.line_of_one-end.ensures.upper_bound.0, c.if-out-at-lt-LONGEST_ANSWER.false, c.loop-p.invariant.1.0), c.loop-p.invariant.1.0.0) }
 
 pub overflow_add-start : goal.overflow_add-start
-overflow_add-start c = omega (arith, c.loop-p-test.true, c.requires.0)
+overflow_add-start c = omega (arith, c.loop-p-test.true, c.requires.input_bound)
 
 pub overflow_sub-input : goal.overflow_sub-input
 overflow_sub-input c = omega (arith, c.loop-p-test.true)
 
 pub overflow_add-offset-then-last : goal.overflow_add-offset-then-last
-overflow_add-offset-then-last c = omega (arith, c.requires.0, c.loop-p-test.true)
+overflow_add-offset-then-last c = omega (arith, c.requires.input_bound, c.loop-p-test.true)
 
 pub line_of_one-end-requires-then-last : goal.line_of_one-end-requires-then-last
 line_of_one-end-requires-then-last c = omega (arith, c.if-out-at-lt-LONGEST_ANSWER.false, c.loop-p.invariant.1.0)
 
 pub returns-then-last : goal.returns-then-last
 unfolding end_line
-returns-then-last c = let l = c.loop-p in
-    let e = c.line_of_one-end-then-last.ensures in
-    let k = c.kind_of.ensures in
-    let g = c.n-1.given in (
-      printed-short _ _ _ _ _ _ _ _ l.invariant.0 c.loop-p-test.true _ _ _ _ (sym k ∙ g.1) c.if-input-start.true c.if-last.true e.0 (omega (arith, e.1.0, c.if-out-at-lt-LONGEST_ANSWER.false, l.invariant.1.0)),
-      (tt, (omega (arith, e.1.0, c.if-out-at-lt-LONGEST_ANSWER.false, l.invariant.1.0), l.invariant.1.0.0)),
-    )
+returns-then-last c = let k = c.kind_of.ensures in
+    let g = c.n-1.given in record { by_index = printed-short _ _ _ _ _ _ _ _ c.loop-p.invariant.0 c.loop-p-test.true _ _ _ _ (sym k ∙ g.1) c.if-input-start.true c.if-last.true c.line_of_one-end-then-last.ensures.result_after (omega (arith, c.line_of_one-end-then-last.ensures.upper_bound.0, c.if-out-at-lt-LONGEST_ANSWER.false, c.loop-p.invariant.1.0)); rests = tt; printed_in_bounds = (omega (arith, c.line_of_one-end-then-last.ensures.upper_bound.0, c.if-out-at-lt-LONGEST_ANSWER.false, c.loop-p.invariant.1.0), c.loop-p.invariant.1.0.0) }
 
 pub returns-then-input-start : goal.returns-then-input-start
 returns-then-input-start c = let l = c.loop-p in
     let k = c.kind_of.ensures in
     let g = c.n-1.given in
     let m = body_at_most _ _ _ (sym k ∙ g.1) in
-    (l.invariant.0, ((omega (arith, m, c.if-input-start.true, c.loop-p-test.true), λ t. absurd (true_not_false (sym t ∙ c.if-last.false))), (omega (arith, l.invariant.1.0), l.invariant.1.0.0)))
+    record { by_index = l.invariant.0; rests = (omega (arith, m, c.if-input-start.true, c.loop-p-test.true), λ t. absurd (true_not_false (sym t ∙ c.if-last.false))); printed_in_bounds = (omega (arith, l.invariant.1.0), l.invariant.1.0.0) }
 
 pub overflow_add-end : goal.overflow_add-end
-overflow_add-end c = omega (arith, c.if-input-start.false, c.loop-p-test.true, c.requires.0)
+overflow_add-end c = omega (arith, c.if-input-start.false, c.loop-p-test.true, c.requires.input_bound)
 
 pub slice_bounds-step-count : goal.slice_bounds-step-count
-slice_bounds-step-count c = omega (arith, c.if-input-start.false, c.loop-p-test.true, c.requires.0)
+slice_bounds-step-count c = omega (arith, c.if-input-start.false, c.loop-p-test.true, c.requires.input_bound)
 
 pub step-next-requires : goal.step-next-requires
-step-next-requires c = let l = c.loop-p in
-    let g = c.n-1.given in
-    let e = sym c.kind_of.ensures ∙ g.1 in (
-      body-length c.args.input.now l.p g.0.0 c.loop-p-test.true c.if-input-start.false ∙ known-length _ _ _ e,
-      ((omega (arith, c.requires.1.0, l.invariant.1.1.1.1.0), omega (arith, c.requires.1.1, l.invariant.1.1.1.1)), omega (arith, c.if-out-at-lt-LONGEST_ANSWER.false, l.invariant.1.0)),
-    )
+step-next-requires c = let g = c.n-1.given in
+    let e = sym c.kind_of.ensures ∙ g.1 in record { body_len = body-length c.args.input.now c.loop-p.p g.0.0 c.loop-p-test.true c.if-input-start.false ∙ known-length _ _ _ e; listed_keys_len_bound = (omega (arith, c.requires.listed_keys_len_bound.0, c.loop-p.invariant.1.1.1.1.0), omega (arith, c.requires.listed_keys_len_bound.1, c.loop-p.invariant.1.1.1.1)); longest_answer_in_bounds = omega (arith, c.if-out-at-lt-LONGEST_ANSWER.false, c.loop-p.invariant.1.0) }
 
 pub loop-p-smaller : goal.loop-p-smaller
 loop-p-smaller c = omega (arith, c.if-input-start.false, c.loop-p-test.true)
 
 pub loop-p-preserved : goal.loop-p-preserved
-loop-p-preserved c = let l = c.loop-p in
-    let g = c.n-1.given in
+loop-p-preserved c = let g = c.n-1.given in
     let e = sym c.kind_of.ensures ∙ g.1 in
-    let f = c.step-next in
-    let kept = f.auto.1.1.1 in
-    let i = l.invariant.1 in (
-      printed-next _ _ _ _ _ _ _ _ l.invariant.0 c.loop-p-test.true _ _ g.0.0 g.0.1.0 e c.if-input-start.false _ (body_is c.args.input.now l.p g.0.0) _
-          (ap (λ (x : Stepped). x.next) f.ensures.0) (ap (λ (x : Stepped). x.text) f.ensures.0) (omega (arith, f.ensures.1.0, c.if-out-at-lt-LONGEST_ANSWER.false, i.0)),
+    let kept = c.step-next.auto.1.1.1 in
+    let i = c.loop-p.invariant.1 in (
+      printed-next _ _ _ _ _ _ _ _ c.loop-p.invariant.0 c.loop-p-test.true _ _ g.0.0 g.0.1.0 e c.if-input-start.false _ (body_is c.args.input.now c.loop-p.p g.0.0) _
+          (ap (λ (x : Stepped). x.next) c.step-next.ensures.at_after) (ap (λ (x : Stepped). x.text) c.step-next.ensures.at_after) (omega (arith, c.step-next.ensures.at_bound.0, c.if-out-at-lt-LONGEST_ANSWER.false, i.0)),
       (
-        (omega (arith, c.if-input-start.false, c.loop-p-test.true), (omega (arith, f.ensures.1, c.if-out-at-lt-LONGEST_ANSWER.false, i.0), f.ensures.1.1 ∙ i.0.1.1)),
+        (omega (arith, c.if-input-start.false, c.loop-p-test.true), (omega (arith, c.step-next.ensures.at_bound, c.if-out-at-lt-LONGEST_ANSWER.false, i.0), c.step-next.ensures.at_bound.1 ∙ i.0.1.1)),
         (
           (kept.0 ∙ i.1.0.0, (kept.1.0 ∙ i.1.0.1.0, kept.1.1.0 ∙ i.1.0.1.1)),
           (
@@ -114,7 +98,7 @@ loop-p-preserved c = let l = c.loop-p in
 
 pub returns : goal.returns
 returns c = let l = c.loop-p in
-    (l.invariant.0, ((omega (arith, c.loop-p-test.false), λ t. omega (arith, c.loop-p-test.false, l.invariant.1.0)), (omega (arith, l.invariant.1.0), l.invariant.1.0.0)))
+    record { by_index = l.invariant.0; rests = (omega (arith, c.loop-p-test.false), λ t. omega (arith, c.loop-p-test.false, l.invariant.1.0)); printed_in_bounds = (omega (arith, l.invariant.1.0), l.invariant.1.0.0) }
 
 -- MISS
 -- shared-slice-read-kind-of : tie.Need-shared-slice-read-kind-of invariant-loop decreases-loop

@@ -8,4 +8,4 @@ use Rattle.rebuild.proofs.pairs.build_two.Goals as goal
 
 pub build_node-g-requires : goal.build_node-g-requires
 build_node-g-requires c =
-    (two_rise _ _ c.requires.1.0 c.requires.1.1, (refl, (omega arith, (pooled_sized _ c.requires.0, hinted_first _))))
+    record { rising = two_rise _ _ c.requires.a_lt_b.0 c.requires.a_lt_b.1; payloads_len = refl; keys_len_bound = omega arith; sized = pooled_sized _ c.requires.pooled; hinted = hinted_first _ }

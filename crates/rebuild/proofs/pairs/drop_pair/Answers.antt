@@ -5,7 +5,7 @@ use borrow.Author.Rules.{rules}
 use Rattle.rebuild.proofs.pairs.drop_pair.Goals as goal
 
 pub returns-then-not-conflict : goal.returns-then-not-conflict
-returns-then-not-conflict c = pair_stays _ _ _ (not-true _ c.if-not-conflict.true)
+returns-then-not-conflict c = pair_stays _ _ _ c.if-not-conflict.true
 
 pub returns : goal.returns
-returns c = pair_goes _ _ _ _ (not-false _ c.if-not-conflict.false) c.release.ensures
+returns c = pair_goes _ _ _ _ c.if-not-conflict.false c.release.ensures

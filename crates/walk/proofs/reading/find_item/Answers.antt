@@ -17,65 +17,57 @@ use Rattle.walk.proofs.Siftings.{enters, enters_some, enter_stands, enter_fits, 
 use Rattle.walk.proofs.reading.find_item.Goals as goal
 
 pub loop-n-init : goal.loop-n-init
-loop-n-init c = (c.requires.1.0, ((refl, refl), refl))
+loop-n-init c = (c.requires.stands, ((refl, refl), refl))
 
 pub may_enter-requires : goal.may_enter-requires
 may_enter-requires c = omega (arith, enter_fits _ _ _ _ _ _ _ c.event-1.given.1 c.loop-n.invariant.0, c.well-formed.1.0)
 
 pub returns-then-not-may_enter : goal.returns-then-not-may_enter
 returns-then-not-may_enter c =
-    let l = c.loop-n in
-    finds_from l.invariant.1.1 (finds_unentered _ _ _ _ _ _ _ _ _ _ c.event-1.given.1 (sym (c.may_enter.ensures _) ∙ not-true _ c.if-not-may_enter.true))
+    finds_from c.loop-n.invariant.1.1 (finds_unentered _ _ _ _ _ _ _ _ _ _ c.event-1.given.1 (sym (c.may_enter.ensures _) ∙ c.if-not-may_enter.true))
 
 pub after_node-left-requires : goal.after_node-left-requires
-after_node-left-requires c = enters_some _ _ _ (sym (c.may_enter.ensures []) ∙ not-false _ c.if-not-may_enter.false)
+after_node-left-requires c = enters_some _ _ _ (sym (c.may_enter.ensures []) ∙ c.if-not-may_enter.false)
 
 pub next-moved-requires : goal.next-moved-requires
 next-moved-requires c =
-    let l = c.loop-n in
     let p = c.requires in
-    (p.0, (enter_stands _ _ _ _ _ _ _ c.event-1.given.1 l.invariant.0, (omega (arith, l.invariant.1.0, p.1.1), omega (arith, l.invariant.1.0, p.1.1))))
+    record { span_fits = p.0; standing = enter_stands _ _ _ _ _ _ _ c.event-1.given.1 c.loop-n.invariant.0; longest_path_in_bounds = (omega (arith, c.loop-n.invariant.1.0, p.1.1), omega (arith, c.loop-n.invariant.1.0, p.1.1)) }
 
 pub loop-n-smaller : goal.loop-n-smaller
 loop-n-smaller c =
-    let s : 1 ≤ c.loop-n.left.nodes = enters_some _ _ _ (sym (c.may_enter.ensures []) ∙ not-false _ c.if-not-may_enter.false) in
+    let s : 1 ≤ c.loop-n.left.nodes = enters_some _ _ _ (sym (c.may_enter.ensures []) ∙ c.if-not-may_enter.false) in
     omega (arith, ap (λ (x : Rules). x.nodes) c.after_node-left.ensures)
 
 pub loop-n-preserved : goal.loop-n-preserved
 loop-n-preserved c =
-    let l = c.loop-n in
-    let n = c.next-moved in
-    let k = n.auto.1.1.1.1.1.1 in (
-      n.ensures.stands,
+    let k = c.next-moved.auto.1.1.1.1.1.1 in (
+      c.next-moved.ensures.stands,
       (
-        (k.0 ∙ l.invariant.1.0.0, k.1.0 ∙ l.invariant.1.0.1),
-        enters _ _ _ _ _ _ _ _ c.event-1.given.1 (sym (c.may_enter.ensures _) ∙ not-false _ c.if-not-may_enter.false) c.after_node-left.ensures n.ensures.tells ∙ l.invariant.1.1,
+        (k.0 ∙ c.loop-n.invariant.1.0.0, k.1.0 ∙ c.loop-n.invariant.1.0.1),
+        enters _ _ _ _ _ _ _ _ c.event-1.given.1 (sym (c.may_enter.ensures _) ∙ c.if-not-may_enter.false) c.after_node-left.ensures c.next-moved.ensures.tells ∙ c.loop-n.invariant.1.1,
       ),
     )
 
 pub returns-then-not-may_hold : goal.returns-then-not-may_hold
 returns-then-not-may_hold c =
-    let l = c.loop-n in
-    finds_from l.invariant.1.1 (finds_unheld _ _ _ _ _ _ _ _ _ _ c.event-in-Element-1.given.1 (sym c.may_hold.ensures ∙ not-true _ c.if-not-may_hold.true))
+    finds_from c.loop-n.invariant.1.1 (finds_unheld _ _ _ _ _ _ _ _ _ _ c.event-in-Element-1.given.1 (sym c.may_hold.ensures ∙ c.if-not-may_hold.true))
 
 pub after_key-after-requires : goal.after_key-after-requires
 after_key-after-requires c = element_key _ _ _ _ _ _ _ c.event-in-Element-1.given.1 c.loop-n.invariant.0
 
 pub returns-in-Element : goal.returns-in-Element
 returns-in-Element c =
-    let l = c.loop-n in
-    finds_from l.invariant.1.1 (finds_held _ _ _ _ _ _ _ _ _ _ c.event-in-Element-1.given.1 (sym c.may_hold.ensures ∙ not-false _ c.if-not-may_hold.false) l.invariant.0 _ c.after_key-after.ensures)
+    finds_from c.loop-n.invariant.1.1 (finds_held _ _ _ _ _ _ _ _ _ _ c.event-in-Element-1.given.1 (sym c.may_hold.ensures ∙ c.if-not-may_hold.false) c.loop-n.invariant.0 _ c.after_key-after.ensures)
 
 pub returns-in-Damage : goal.returns-in-Damage
 returns-in-Damage c =
-    let l = c.loop-n in
-    finds_from l.invariant.1.1 (finds_damage _ _ _ _ _ _ _ _ _ c.event-in-Damage-1.given.1)
+    finds_from c.loop-n.invariant.1.1 (finds_damage _ _ _ _ _ _ _ _ _ c.event-in-Damage-1.given.1)
 
 pub returns-in-End : goal.returns-in-End
 returns-in-End c =
-    let l = c.loop-n in
-    let e : l.moved.event ≡ End = cc in
-    finds_from l.invariant.1.1 (finds_end _ _ _ _ _ _ _ _ e)
+    let e : c.loop-n.moved.event ≡ End = cc in
+    finds_from c.loop-n.invariant.1.1 (finds_end _ _ _ _ _ _ _ _ e)
 
 -- MISS
 -- same_length : tie.Need-same-length invariant-loop decreases-loop

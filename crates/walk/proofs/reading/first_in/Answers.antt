@@ -7,7 +7,7 @@ use Rattle.walk.proofs.Readings.{first_between, first-whole}
 use Rattle.walk.proofs.reading.first_in.Goals as goal
 
 pub slot_of-requires : goal.slot_of-requires
-slot_of-requires c = (c.requires.0, (subst SpanFits c.span-1.given.1 c.requires.1).0)
+slot_of-requires c = record { in_range = c.requires.in_range; x_lt_value_bound = (subst SpanFits c.span-1.given.1 c.requires.span_fits).0 }
 
 pub returns-in-Between : goal.returns-in-Between
 returns-in-Between c = c.slot_of.ensures.0 ∙ first_between _ _ _ _ (sym c.span-1.given.1)

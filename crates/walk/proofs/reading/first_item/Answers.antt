@@ -5,7 +5,7 @@ use borrow.Author.Rules.{rules}
 use Rattle.walk.proofs.reading.first_item.Goals as goal
 
 pub find_item-requires : goal.find_item-requires
-find_item-requires c = (c.requires.0, ((c.start-first.ensures [] []).stands, c.requires.1.1))
+find_item-requires c = record { span_fits = c.requires.span_fits; stands = (c.start-first.ensures [] []).stands; longest_path_in_bounds = c.requires.longest_path_in_bounds }
 
 pub returns : goal.returns
 returns c = finds_of (c.start-first.ensures _ _).tells c.find_item.ensures

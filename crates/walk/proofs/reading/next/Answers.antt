@@ -13,7 +13,7 @@ use Rattle.walk.proofs.Readings.{slots-inside, moves_from, skipped, goes_up, mee
 use Rattle.walk.proofs.reading.next.Goals as goal
 
 pub loop-n-init : goal.loop-n-init
-loop-n-init c = (c.requires.1.0, ((refl, refl), refl))
+loop-n-init c = (c.requires.standing, ((refl, refl), refl))
 
 pub skip_null-at-requires : goal.skip_null-at-requires
 skip_null-at-requires c = slots-inside _ _ _ _ c.loop-n.invariant.0
@@ -22,47 +22,40 @@ pub meet-requires : goal.meet-requires
 meet-requires c =
     let p = c.requires in
     let l = c.loop-n.invariant in
-    (p.0, (record { reads = l.0.reads; ends = l.0.ends; deep = l.0.deep }, (c.if-at-end.true, (c.skip_null-at.ensures.stops c.if-at-end.true, (omega (arith, l, p.1.1), omega (arith, l, p.1.1))))))
+    record { span_fits = p.0; standing = record { reads = l.0.reads; ends = l.0.ends; deep = l.0.deep }; at_lt_end = c.if-at-end.true; kind_unit_bound = c.skip_null-at.ensures.stops c.if-at-end.true; longest_path_in_bounds = (omega (arith, l, p.1.1), omega (arith, l, p.1.1)) }
 
 pub returns-then-at-end : goal.returns-then-at-end
 returns-then-at-end c =
-    let l = c.loop-n in
-    let k = c.skip_null-at in
-    moves_from (skipped _ _ _ l.c _ _ k.result k.ensures ∙ l.invariant.1.1) c.meet.ensures
+    moves_from (skipped _ _ _ c.loop-n.c _ _ c.skip_null-at.result c.skip_null-at.ensures ∙ c.loop-n.invariant.1.1) c.meet.ensures
 
 pub returns-then-c-lt1 : goal.returns-then-c-lt1
 returns-then-c-lt1 c =
-    let l = c.loop-n in
-    let k = c.skip_null-at in
-    moves_from (skipped _ _ _ l.c _ _ k.result k.ensures ∙ l.invariant.1.1) (meets_end _ _ _ _ _ _ c.if-at-end.false c.if-c-lt1.true _)
+    moves_from (skipped _ _ _ c.loop-n.c _ _ c.skip_null-at.result c.skip_null-at.ensures ∙ c.loop-n.invariant.1.1) (meets_end _ _ _ _ _ _ c.if-at-end.false c.if-c-lt1.true _)
 
 pub bounds-records-depth : goal.bounds-records-depth
-bounds-records-depth c = omega (arith, c.loop-n.invariant, c.requires.1.1)
+bounds-records-depth c = omega (arith, c.loop-n.invariant, c.requires.longest_path_in_bounds)
 
 pub past_last-end-requires : goal.past_last-end-requires
 past_last-end-requires c =
     let g = good-node _ _ _ (sym c.node_at.ensures ∙ c.n-in-Good-1.given.1) in
-    (g.range, c.requires.0)
+    record { in_range = g.range; span_fits = c.requires.span_fits }
 
 pub bounds-places-depth : goal.bounds-places-depth
-bounds-places-depth c = omega (arith, c.loop-n.invariant, c.requires.1.1)
+bounds-places-depth c = omega (arith, c.loop-n.invariant, c.requires.longest_path_in_bounds)
 
 pub loop-n-preserved : goal.loop-n-preserved
 loop-n-preserved c =
     let l = c.loop-n in
-    let k = c.skip_null-at in
     let e = sym c.node_at.ensures ∙ c.n-in-Good-1.given.1 in
     let q = c.past_last-end.ensures in (
       record { reads = e; ends = q; deep = omega (arith, l.invariant.0.deep) },
-      (l.invariant.1.0, goes_up _ _ _ _ _ _ c.if-at-end.false l.invariant.0.deep c.if-c-lt1.false _ refl _ _ e q ∙ skipped _ _ _ l.c _ _ k.result k.ensures ∙ l.invariant.1.1),
+      (l.invariant.1.0, goes_up _ _ _ _ _ _ c.if-at-end.false l.invariant.0.deep c.if-c-lt1.false _ refl _ _ e q ∙ skipped _ _ _ l.c _ _ c.skip_null-at.result c.skip_null-at.ensures ∙ l.invariant.1.1),
     )
 
 pub returns-in-Broken : goal.returns-in-Broken
 returns-in-Broken c =
-    let l = c.loop-n in
-    let k = c.skip_null-at in
     let e = sym c.node_at.ensures ∙ c.b-1.given.1 in
-    moves_from (skipped _ _ _ l.c _ _ k.result k.ensures ∙ l.invariant.1.1) (meets_broken-above _ _ _ _ _ _ c.if-at-end.false l.invariant.0.deep c.if-c-lt1.false _ refl _ _ e)
+    moves_from (skipped _ _ _ c.loop-n.c _ _ c.skip_null-at.result c.skip_null-at.ensures ∙ c.loop-n.invariant.1.1) (meets_broken-above _ _ _ _ _ _ c.if-at-end.false c.loop-n.invariant.0.deep c.if-c-lt1.false _ refl _ _ e)
 
 -- MISS
 -- same_length : tie.Need-same-length invariant-loop decreases-loop

@@ -9,7 +9,7 @@ find_item-requires c =
     let p = c.requires in
     let n = c.next-first in
     let k = n.auto.1.1.1.1.1.1 in
-    (p.0, (n.ensures.stands, (omega (arith, k.0, p.1.1), omega (arith, k.1.0, p.1.1))))
+    record { span_fits = p.0; stands = n.ensures.stands; longest_path_in_bounds = (omega (arith, k.0, p.1.1), omega (arith, k.1.0, p.1.1)) }
 
 pub returns : goal.returns
 returns c = finds_of c.next-first.ensures.tells c.find_item.ensures

@@ -8,10 +8,10 @@ use borrow.Author.Rules.{rules}
 use Rattle.walk.proofs.reading.past_last.Goals as goal
 
 pub slot_of-requires : goal.slot_of-requires
-slot_of-requires c = (c.requires.0, (subst SpanFits c.span-1.given.1 c.requires.1).1)
+slot_of-requires c = record { in_range = c.requires.in_range; x_lt_value_bound = (subst SpanFits c.span-1.given.1 c.requires.span_fits).1 }
 
 pub returns-in-Between : goal.returns-in-Between
 returns-in-Between c = ap (λ (x : ℕ). x + 1) c.slot_of.ensures.0 ∙ last_between _ _ _ _ (sym c.span-1.given.1)
 
 pub returns-in-Whole : goal.returns-in-Whole
-returns-in-Whole c = let e : Whole ≡ c.args.span = cc in last_whole _ _ c.requires.0 e
+returns-in-Whole c = let e : Whole ≡ c.args.span = cc in last_whole _ _ c.requires.in_range e

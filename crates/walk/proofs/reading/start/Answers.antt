@@ -18,9 +18,9 @@ returns-2 c rs js =
 pub first_in-at-requires : goal.first_in-at-requires
 first_in-at-requires c =
     let g = good-node _ _ _ (sym c.node_at.ensures ∙ c.n-1.given.1) in
-    (g.range, c.requires.0)
+    record { in_range = g.range; span_fits = c.requires.span_fits }
 
 pub past_last-end-requires : goal.past_last-end-requires
 past_last-end-requires c =
     let g = good-node _ _ _ (sym c.node_at.ensures ∙ c.n-1.given.1) in
-    (g.range, c.requires.0)
+    record { in_range = g.range; span_fits = c.requires.span_fits }
