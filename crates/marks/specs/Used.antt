@@ -1,6 +1,6 @@
 -- The map of used places (document 01, "Where nodes go"): a bit a place, 64 places a word, lowest bit first. What it means that
 -- a place is used, that a run is unused or wholly used, and which place or run is the lowest. Definitions only.
-use Rattle.std.specs.Prelude.{Bool, true, false, List, ℕ, zero, suc, ◌+◌, ◌-◌, ◌/◌, ◌%◌, ◌^◌, ltb, eqb, get_or, set}
+use Rattle.std.specs.Prelude.{Bool, true, false, List, ℕ, zero, suc, ◌+◌, ◌-◌, ◌/◌, ◌%◌, ◌^◌, eqb, get_or, set}
 use Rattle.laws.specs.Pick.{pick}
 use Rattle.marks.specs.declared.Run.{Run}
 use Rattle.marks.specs.declared.Run.TheVariants.{At, Nowhere}

@@ -1,20 +1,20 @@
 -- Counting the keys of a slot: over a list put together of two, over one key more, and what the counting test says when it
 -- passes or fails. The loops over words and over bytes both end in these laws. Assumes nothing.
-use mathlib.Core.Bool.{Bool, true, false}
+use mathlib.Core.Bool.{true, false}
 use mathlib.Core.List.{List, [], ◌∷◌, ◌++◌}
 use mathlib.Core.Path.{◌≡◌, refl, sym, ap, ◌∙◌}
-use Prim.Native.Nat.{ℕ, zero, suc, ◌+◌, ◌-◌, ◌<◌, ◌≤◌}
+use Prim.Native.Nat.{ℕ, zero, suc, ◌+◌, ◌<◌, ◌≤◌}
 use native.Mathlib.Nat.{add-zero}
 use native.Mathlib.Numerals.{add-one}
 use native.Mathlib.Omega.{arith}
-use borrow.Author.Tests.{eq-eqb, ne_eqb, le-leb, lt-leb, leb-true, eqb-true, eqb-false}
+use borrow.Author.Tests.{eq-eqb, ne_eqb, le-leb, leb-true, eqb-true, eqb-false}
 use lib.Dec.{leb, eqb}
 use lib.ListN.{length, get_or, take, drop, set, replicate, take-append-drop, length-set, get_or-replicate}
 use lib.Seq.{take-suc, get_or-set_same, get_or-set_other, take_all}
-use Rattle.laws.proofs.Tests.{both, pick_and, true_not_false}
+use Rattle.laws.proofs.Tests.{both, pick_and}
 use Rattle.laws.specs.Pick.{pick}
 use Rattle.model.specs.Choice.{count_at, spread_below, spread}
-use Rattle.model.specs.Slots.{value_of, slot_of}
+use Rattle.model.specs.Slots.{slot_of}
 use Rattle.model.specs.declared.Model.{Model}
 
 module _ (m : Model) (s : ℕ) where

@@ -1,25 +1,23 @@
 -- The T of document 01 exists: leaving ceil(n/3) keys to each end always passes the counting test (n = 4 has its own argument),
 -- so the search from 1 up ends within floor((n-1)/2), at the least T that passes. Assumes nothing.
 use mathlib.Core.Bool.{Bool, true, false}
-use mathlib.Core.List.{List, [], ◌∷◌, ◌++◌}
-use mathlib.Core.Path.{◌≡◌, refl, sym, ap, ◌∙◌}
-use Prim.Native.Nat.{ℕ, zero, suc, ◌+◌, ◌-◌, ◌*◌, ◌/◌, ◌<◌, ◌≤◌, min, max}
-use native.Mathlib.Nat.{le-div_iff_mul-le, div-lt_iff_lt-mul, div-eq_of_lt, zero-mul, div-eq_of_lt-le}
-use native.Mathlib.Numerals.{add-one}
+use mathlib.Core.List.{List, [], ◌∷◌}
+use mathlib.Core.Path.{◌≡◌, sym, ap, ◌∙◌}
+use Prim.Native.Nat.{ℕ, zero, suc, ◌+◌, ◌-◌, ◌*◌, ◌/◌, ◌<◌, ◌≤◌}
+use native.Mathlib.Nat.{le-div_iff_mul-le, div-eq_of_lt, zero-mul}
 use native.Mathlib.Omega.{arith}
 use borrow.Author.Tests.{eqb-true, eqb-false, ltb-true, ltb-false, lt-ltb, le-ltb}
 use lib.Dec.{eqb, ltb}
-use lib.ListN.{length, get_or, take, drop, take-append-drop, length-drop, drop_of_length-le}
-use lib.Seq.{drop-cons, get_or-drop, get_or-take, drop-drop, length-take-le}
+use lib.ListN.{length, get_or, take, drop, take-append-drop, length-drop}
+use lib.Seq.{drop-cons, get_or-drop, get_or-take, length-take-le}
 use Rattle.laws.proofs.Risings.{rising_climbs}
 use Rattle.laws.proofs.Tests.{both, true_not_false}
 use Rattle.laws.specs.Keys.{Rising}
-use Rattle.laws.specs.Pick.{pick}
-use Rattle.model.proofs.Counts.{count-append, count-within, count_none, spread_passes, spread_bounds}
+use Rattle.model.proofs.Counts.{count-append, count-within, count_none, spread_passes}
 use Rattle.model.proofs.Slots.{slot-first, slot_last, slot-within, slot_between}
 use Rattle.model.specs.Choice.{slots_for, count_at, spread, model_at, least_from, t_of, model_of, empty_model, choice_of}
 use Rattle.model.specs.Height.{third}
-use Rattle.model.specs.Slots.{value_of, slot_of, InRange}
+use Rattle.model.specs.Slots.{slot_of, InRange}
 use Rattle.model.specs.declared.Model.{Model}
 
 -- A search that finds, and that finds the least.

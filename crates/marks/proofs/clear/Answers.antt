@@ -1,6 +1,5 @@
 -- `marks::clear` meets its contract: a bit that is set is taken away, one that is not is left. Assumes nothing.
 use native.Mathlib.Omega.{arith}
-use borrow.Author.Rules.{rules}
 use Rattle.marks.proofs.Marks.{clear_stored, clear_unset}
 use Rattle.marks.proofs.Words.{shifted_within}
 use Rattle.marks.proofs.clear.Goals as goal

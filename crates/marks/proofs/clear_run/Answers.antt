@@ -1,13 +1,12 @@
 -- `marks::clear_run` meets its contract: at each turn, clearing the places that are left is clearing them all. Assumes
 -- nothing.
-use mathlib.Core.Path.{◌≡◌, refl, ◌∙◌}
-use Prim.Native.Nat.{◌+◌, ◌-◌, ◌≤◌, ◌/◌}
+use mathlib.Core.Path.{refl, ◌∙◌}
+use Prim.Native.Nat.{◌/◌}
 use native.Mathlib.Omega.{arith}
 use borrow.Author.Rules.{rules}
 use borrow.Author.Tests.{leb-true}
-use lib.ListN.{length, length-set}
-use Rattle.marks.specs.Used.{clear_run}
-use Rattle.marks.proofs.Marks.{Words, store_words}
+use lib.ListN.{length-set}
+use Rattle.marks.proofs.Marks.{store_words}
 use Rattle.marks.proofs.Turns.{clear-start, clear_next, clear-next-word, clear-end}
 use Rattle.marks.proofs.clear_run.Goals as goal
 

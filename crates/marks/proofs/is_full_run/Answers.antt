@@ -1,11 +1,8 @@
 -- `marks::is_full_run` meets its contract: at each turn, whether the places that are left are used decides whether all are.
 -- Assumes nothing.
-use mathlib.Core.Path.{◌≡◌, refl, sym, ◌∙◌}
-use Prim.Native.Nat.{◌+◌, ◌-◌, ◌≤◌}
+use mathlib.Core.Path.{refl, sym, ◌∙◌}
 use native.Mathlib.Omega.{arith}
-use borrow.Author.Rules.{rules}
-use borrow.Author.Tests.{leb-true, not-true, not-false}
-use Rattle.marks.specs.Used.{full_run}
+use borrow.Author.Tests.{leb-true}
 use Rattle.marks.proofs.Marks.{used-within}
 use Rattle.marks.proofs.Turns.{each_one, full-word_each, full_start, full-next, full_not_here, full_not_word, full-end}
 use Rattle.marks.proofs.is_full_run.Goals as goal
@@ -33,6 +30,5 @@ loop-q-preserved c =
 pub returns : goal.returns
 returns c = full-end _ _ _ c.loop-q-test.false ∙ c.loop-q.invariant.2
 
--- MISS
--- shared-slice-read-if4 : tie.Need-shared-slice-read-if4 invariant-loop decreases-loop
--- shared-slice-read-if4 c = used-within _ _ (sym c.before.before.before.before.is-used.ensures ∙ not-false _ c.before.before.before.if1.false)
+pub bounds-used-q : goal.bounds-used-q
+bounds-used-q c = used-within _ _ (sym c.is_used.ensures ∙ c.if-not-is_used.false)

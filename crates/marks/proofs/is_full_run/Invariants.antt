@@ -1,13 +1,8 @@
 -- `marks::is_full_run` meets its contract: at each turn, whether the places that are left are used decides whether all are.
 -- Assumes nothing.
-use mathlib.Core.Path.{◌≡◌, refl, sym, ◌∙◌}
+use mathlib.Core.Path.{◌≡◌}
 use Prim.Native.Nat.{◌+◌, ◌-◌, ◌≤◌}
-use native.Mathlib.Omega.{arith}
-use borrow.Author.Rules.{rules}
-use borrow.Author.Tests.{leb-true, not-true, not-false}
 use Rattle.marks.specs.Used.{full_run}
-use Rattle.marks.proofs.Marks.{used-within}
-use Rattle.marks.proofs.Turns.{each_one, full-word_each, full_start, full-next, full_not_here, full_not_word, full-end}
 use Rattle.marks.proofs.is_full_run.Given as goal
 
 abbrev pub invariant-loop-q : goal.invariant-loop-q

@@ -1,7 +1,6 @@
 -- `marks::is_used` meets its contract: within the map by computation, past its end since nothing is used there. Assumes
 -- nothing.
 use mathlib.Core.Path.{refl, sym}
-use borrow.Author.Rules.{rules}
 use Rattle.marks.specs.Used.{used_at}
 use Rattle.marks.proofs.Marks.{past_unused}
 use Rattle.marks.proofs.is_used.Goals as goal

@@ -1,10 +1,7 @@
 -- `marks::lowest_run` meets its contract: at each turn no run starts before the start tried, and got places from it on are
 -- unused. Assumes nothing.
-use mathlib.Core.Bool.{true, false}
-use mathlib.Core.Path.{◌≡◌, refl, sym, ◌∙◌}
-use Prim.Native.Nat.{ℕ, ◌+◌, ◌-◌, ◌<◌, ◌≤◌}
+use mathlib.Core.Path.{refl, sym, ◌∙◌}
 use native.Mathlib.Omega.{arith}
-use borrow.Author.Rules.{rules}
 use borrow.Author.Tests.{ltb-true}
 use Rattle.marks.specs.Used.{free_run}
 use Rattle.marks.proofs.Lowest.{lowest_run_here, lowest_run-nowhere}
@@ -17,8 +14,7 @@ returns-then-n-l c = sym (lowest_run-nowhere _ _ _ _ (λ j h. absurd (omega arit
 pub loop-start-init : goal.loop-start-init
 unfolding free_run
 loop-start-init c =
-    let a = c.args in
-    (omega arith, omega arith, omega arith, omega arith, refl, starts_used _ _ a.l a.s (omega arith) c.requires.4)
+    (omega arith, omega arith, omega arith, omega arith, refl, starts_used _ _ c.args.l c.args.s (omega arith) c.requires.4)
 
 pub skip_full-requires : goal.skip_full-requires
 skip_full-requires c = (omega arith, omega arith)

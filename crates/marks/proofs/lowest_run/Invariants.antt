@@ -1,14 +1,9 @@
 -- `marks::lowest_run` meets its contract: at each turn no run starts before the start tried, and got places from it on are
 -- unused. Assumes nothing.
 use mathlib.Core.Bool.{true, false}
-use mathlib.Core.Path.{◌≡◌, refl, sym, ◌∙◌}
+use mathlib.Core.Path.{◌≡◌}
 use Prim.Native.Nat.{ℕ, ◌+◌, ◌-◌, ◌<◌, ◌≤◌}
-use native.Mathlib.Omega.{arith}
-use borrow.Author.Rules.{rules}
-use borrow.Author.Tests.{ltb-true}
 use Rattle.marks.specs.Used.{free_run}
-use Rattle.marks.proofs.Lowest.{lowest_run_here, lowest_run-nowhere}
-use Rattle.marks.proofs.Turns.{each_one, full-words_each, zero_word_each, free_next, starts_used, starts_next}
 use Rattle.marks.proofs.lowest_run.Given as goal
 
 abbrev pub invariant-loop-start : goal.invariant-loop-start

@@ -1,5 +1,4 @@
 -- `marks::mark` meets its contract: the or with the place's power of two is what the definition adds. Assumes nothing.
-use borrow.Author.Rules.{rules}
 use Rattle.marks.proofs.Marks.{mark_stored}
 use Rattle.marks.proofs.mark.Goals as goal
 

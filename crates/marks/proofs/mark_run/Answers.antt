@@ -1,12 +1,11 @@
 -- `marks::mark_run` meets its contract: at each turn, marking the places that are left is marking them all. Assumes nothing.
-use mathlib.Core.Path.{◌≡◌, refl, ◌∙◌}
-use Prim.Native.Nat.{◌+◌, ◌-◌, ◌≤◌, ◌/◌, ◌^◌}
+use mathlib.Core.Path.{refl, ◌∙◌}
+use Prim.Native.Nat.{◌-◌, ◌/◌, ◌^◌}
 use native.Mathlib.Omega.{arith}
 use borrow.Author.Rules.{rules}
 use borrow.Author.Tests.{leb-true}
-use lib.ListN.{length, length-set}
-use Rattle.marks.specs.Used.{mark_run}
-use Rattle.marks.proofs.Marks.{Words, store_words}
+use lib.ListN.{length-set}
+use Rattle.marks.proofs.Marks.{store_words}
 use Rattle.marks.proofs.Turns.{mark-start, mark-next, mark-next-word, mark-end}
 use Rattle.marks.proofs.mark_run.Goals as goal
 

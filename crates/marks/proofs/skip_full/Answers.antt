@@ -1,8 +1,6 @@
 -- `marks::skip_full` meets its contract: at each turn, all places of the words passed are used. Assumes nothing.
-use Prim.Native.Nat.{◌-◌, ◌≤◌}
 use native.Mathlib.Omega.{arith}
-use borrow.Author.Rules.{rules}
-use Rattle.marks.proofs.Turns.{UsedWords, used-words-next}
+use Rattle.marks.proofs.Turns.{used-words-next}
 use Rattle.marks.proofs.skip_full.Goals as goal
 
 pub loop-w-init : goal.loop-w-init

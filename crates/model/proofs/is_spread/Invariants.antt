@@ -1,10 +1,8 @@
 -- `model::is_spread` meets its contract. The loop's invariant: the table has the counts of the keys passed, none above t.
 -- Assumes nothing.
 use Prim.Native.Nat.{◌-◌, ◌≤◌}
-use native.Mathlib.Omega.{arith}
 use lib.ListN.{length}
-use Rattle.model.proofs.Counts.{Counted, counted_none, counted_more, counted_full, counted_all}
-use borrow.Author.Rules.{rules}
+use Rattle.model.proofs.Counts.{Counted}
 use Rattle.model.proofs.is_spread.Given as goal
 
 abbrev pub invariant-loop-i : goal.invariant-loop-i

@@ -5,7 +5,6 @@ use native.Mathlib.Omega.{arith}
 use lib.ListN.{length}
 use Rattle.laws.proofs.Risings.{rising_climbs}
 use Rattle.model.specs.Choice.{model_at}
-use borrow.Author.Rules.{rules}
 use Rattle.model.proofs.model_at.Goals as goal
 
 pub overflow_sub-w-3 : goal.overflow_sub-w-3

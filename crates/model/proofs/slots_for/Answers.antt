@@ -1,7 +1,6 @@
 -- `model::slots_for` meets its contract. Assumes nothing.
 use native.Mathlib.Omega.{arith}
 use Rattle.model.specs.Choice.{slots_for}
-use borrow.Author.Rules.{rules}
 use Rattle.model.proofs.slots_for.Goals as goal
 
 pub returns-then-n-lt2 : goal.returns-then-n-lt2

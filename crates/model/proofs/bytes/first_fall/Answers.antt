@@ -1,14 +1,10 @@
 -- `model::bytes::first_fall` meets its contract. The loop's invariant: what is left to search from here is the whole search.
 -- Assumes nothing.
 use mathlib.Core.Path.{◌≡◌}
-use Prim.Native.Nat.{◌+◌, ◌-◌, ◌/◌, ◌<◌, ◌≤◌}
+use Prim.Native.Nat.{◌+◌, ◌-◌}
 use native.Mathlib.Omega.{arith}
-use lib.ListN.{length, get_or, drop}
 use Rattle.laws.proofs.Bytes.{length_in}
 use Rattle.laws.proofs.Risings.{falls_none, falls_start, falls_step, falls_here, falls_end}
-use Rattle.laws.specs.Bytes.{keys_in}
-use Rattle.laws.specs.Keys.{first_fall, fall_from}
-use borrow.Author.Rules.{rules}
 use Rattle.model.proofs.bytes.first_fall.Goals as goal
 
 pub returns-then-n-lt1 : goal.returns-then-n-lt1

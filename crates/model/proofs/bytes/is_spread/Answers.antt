@@ -1,13 +1,9 @@
 -- `model::bytes::is_spread` meets its contract, by the same laws as the word list's. Assumes nothing.
 use mathlib.Core.Path.{ap, ◌∙◌}
 use Rattle.model.specs.Slots.{slot_of}
-use Prim.Native.Nat.{◌-◌, ◌/◌, ◌≤◌}
 use native.Mathlib.Omega.{arith}
-use lib.ListN.{length}
 use Rattle.laws.proofs.Bytes.{length_in}
-use Rattle.laws.specs.Bytes.{keys_in}
-use Rattle.model.proofs.Counts.{Counted, counted_none, counted_more, counted_full, counted_all}
-use borrow.Author.Rules.{rules}
+use Rattle.model.proofs.Counts.{counted_none, counted_more, counted_full, counted_all}
 use Rattle.model.proofs.bytes.is_spread.Goals as goal
 
 pub loop-i-init : goal.loop-i-init

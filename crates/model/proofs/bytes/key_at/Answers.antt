@@ -1,7 +1,6 @@
 -- `model::bytes::key_at` meets its contract: six bytes in two threes (laws/Bytes). Assumes nothing.
 use native.Mathlib.Omega.{arith}
 use Rattle.laws.proofs.Bytes.{key_halves}
-use borrow.Author.Rules.{rules}
 use Rattle.model.proofs.bytes.key_at.Goals as goal
 
 pub returns : goal.returns

@@ -6,7 +6,6 @@ use lib.ListN.{length}
 use Rattle.laws.proofs.Bytes.{length_in}
 use Rattle.laws.proofs.Risings.{rising_climbs}
 use Rattle.model.specs.Choice.{model_at}
-use borrow.Author.Rules.{rules}
 use Rattle.model.proofs.bytes.model_at.Goals as goal
 
 pub overflow_sub-w : goal.overflow_sub-w

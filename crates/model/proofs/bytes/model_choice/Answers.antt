@@ -2,7 +2,6 @@
 use native.Mathlib.Omega.{arith}
 use Rattle.model.specs.Choice.{chosen}
 use Rattle.model.proofs.Answering.{choice_uneven, choice_many, choice_falls, choice_is, choice-rising}
-use borrow.Author.Rules.{rules}
 use Rattle.model.proofs.bytes.model_choice.Goals as goal
 
 pub returns-then-len-ne0 : goal.returns-then-len-ne0

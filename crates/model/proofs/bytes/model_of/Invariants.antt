@@ -1,12 +1,8 @@
 -- `model::bytes::model_of` meets its contract, by the same laws as the word list's. Assumes nothing.
 use Prim.Native.Nat.{◌-◌, ◌≤◌}
-use native.Mathlib.Omega.{arith}
 use lib.ListN.{length}
-use Rattle.laws.proofs.Bytes.{length_in}
 use Rattle.laws.specs.Bytes.{keys_in}
-use Rattle.model.specs.Choice.{t_of, empty_model}
-use Rattle.model.proofs.Least.{t-least, try_within, try_in_range, try_passes, try_fails, few-choice, empty-choice}
-use borrow.Author.Rules.{rules}
+use Rattle.model.specs.Choice.{t_of}
 use Rattle.model.proofs.bytes.model_of.Given as goal
 
 abbrev pub invariant-loop-m : goal.invariant-loop-m
