@@ -19,7 +19,7 @@ use Rattle.pool.specs.declared.Record.{Record}
 use Rattle.pool.specs.declared.Record.TheVariants.{Good, Broken}
 use Rattle.pool.specs.declared.Slot.{Slot}
 use Rattle.pool.specs.declared.Slot.TheVariants.{Null, Data, Child, Broken as BrokenSlot}
-use Rattle.walk.specs.Walks.{longest_path, path_too_long, step_in, key_slot, step_good, step_at, step_of, Walk, walk, after, path_of, walk_from, walk_of, follow_of, trace_of}
+use Rattle.walk.specs.Walks.{longest_path, path_too_long, step_in, key_slot, step_good, step_at, step_of, Walk, after, path_of, walk_from, walk_of, follow_of, trace_of}
 use Rattle.walk.specs.declared.End.{End}
 use Rattle.walk.specs.declared.End.TheVariants.{Empty, Key, Damage}
 use Rattle.walk.specs.declared.Followed.{Followed}

@@ -6,7 +6,6 @@ use Rattle.pool.specs.Reading.{node_at}
 use Rattle.pool.specs.declared.Record.{Record}
 use Rattle.pool.specs.declared.Record.TheVariants.{Good, Broken}
 use Rattle.walk.specs.Events.{last_in, in_slots, events_at}
-use Rattle.walk.specs.Walks.{longest_path}
 use Rattle.walk.specs.declared.Cursor.{Cursor}
 use Rattle.walk.specs.declared.Event.{Event}
 use Rattle.walk.specs.declared.Event.TheVariants.{Enter, Element, Damage, End}

@@ -1,7 +1,7 @@
 -- The rules of a whole reading (document 01: "in a band or rebuild also keys not rising, or more nodes read than records exist; in a
 -- rebuild more keys than the capacity (new one included), the new key met elsewhere, or a run not wholly marked used"), in one
 -- definition with two uses: what is left of the events of a reading under them. Definitions only.
-use Rattle.std.specs.Prelude.{Bool, true, false, ◌&&◌, not, List, [], ◌∷◌, ℕ, ◌+◌, ◌-◌, ltb, leb, eqb}
+use Rattle.std.specs.Prelude.{Bool, true, ◌&&◌, not, List, [], ◌∷◌, ℕ, ◌+◌, ◌-◌, leb, eqb}
 use Rattle.laws.specs.Pick.{pick}
 use Rattle.marks.specs.Used.{full_run}
 use Rattle.pool.specs.Memory.{Mem, slot_place}
@@ -9,7 +9,7 @@ use Rattle.pool.specs.declared.Node.{Node}
 use Rattle.walk.specs.declared.Event.{Event}
 use Rattle.walk.specs.declared.Event.TheVariants.{Enter, Element, Damage, End}
 use Rattle.walk.specs.declared.Item.{Item}
-use Rattle.walk.specs.declared.Item.TheVariants.{Held, Broken, End as ItemEnd}
+use Rattle.walk.specs.declared.Item.TheVariants.{Held, Broken}
 use Rattle.walk.specs.declared.Rules.{Rules}
 
 -- may this node be entered: one node more may be read, and in a rebuild its run is wholly marked

@@ -1,13 +1,9 @@
 -- `counters::due_at` meets its contract. The loop's invariant: the due node found from here on is the path's. Assumes nothing.
-use mathlib.Core.Path.{◌≡◌, sym, ◌∙◌}
+use mathlib.Core.Path.{◌≡◌}
 use Prim.Native.Nat.{◌+◌, ◌-◌, ◌≤◌}
-use native.Mathlib.Omega.{arith}
-use lib.ListN.{length, take, length-map}
+use lib.ListN.{take}
 use lib.Seq.{slice}
-use Rattle.walk.specs.Walks.{longest_path}
 use Rattle.counters.specs.Counters.{due_in}
-use Rattle.counters.proofs.Dues.{due-here, due_later, due_nowhere}
-use borrow.Author.Rules.{rules}
 use Rattle.counters.proofs.due_at.Given as goal
 
 abbrev pub invariant-loop-place : goal.invariant-loop-place

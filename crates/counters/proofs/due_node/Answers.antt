@@ -1,6 +1,5 @@
 -- `counters::due_node` meets its contract: the counters it judges are those of the definition. Assumes nothing.
 use Rattle.counters.specs.Counters.{due_node}
-use borrow.Author.Rules.{rules}
 use Rattle.counters.proofs.due_node.Goals as goal
 
 pub returns : goal.returns

@@ -1,6 +1,5 @@
 -- `counters::is_due` meets its contract: each test that fails rules out one of the four conditions. Assumes nothing.
 use native.Mathlib.Omega.{arith}
-use borrow.Author.Rules.{rules}
 use Rattle.counters.proofs.Dues.{not-due, due_by_slots}
 use Rattle.counters.proofs.is_due.Goals as goal
 

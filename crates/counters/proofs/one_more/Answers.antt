@@ -1,6 +1,5 @@
 -- `counters::one_more` meets its contract. Assumes nothing.
 use native.Mathlib.Omega.{arith}
-use borrow.Author.Rules.{rules}
 use Rattle.counters.specs.Counters.{one_more}
 use Rattle.counters.proofs.one_more.Goals as goal
 

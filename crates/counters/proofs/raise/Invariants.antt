@@ -1,13 +1,9 @@
 -- `counters::raise` meets its contract. The loop's invariant: what is left to raise from here is the whole. Assumes nothing.
-use mathlib.Core.Path.{◌≡◌, sym, ◌∙◌}
+use mathlib.Core.Path.{◌≡◌}
 use Prim.Native.Nat.{◌-◌, ◌≤◌}
-use native.Mathlib.Omega.{arith}
-use lib.ListN.{length, take, length-map}
+use lib.ListN.{length, take}
 use lib.Seq.{slice}
-use Rattle.walk.specs.Walks.{longest_path}
 use Rattle.counters.specs.Counters.{raise}
-use Rattle.counters.proofs.Raises.{length-raise_node, raise-one, raise-done}
-use borrow.Author.Rules.{rules}
 use Rattle.counters.proofs.raise.Given as goal
 
 abbrev pub invariant-loop-i : goal.invariant-loop-i

@@ -1,9 +1,7 @@
 -- `counters::raise_node` meets its contract: its stores are those of the definition. Assumes nothing.
 use native.Mathlib.Omega.{arith}
-use borrow.Author.Tests.{not-true, not-false}
 use lib.ListN.{length-set}
 use Rattle.counters.proofs.Raises.{raise_elements_stored, raise_both_stored}
-use borrow.Author.Rules.{rules}
 use Rattle.counters.proofs.raise_node.Goals as goal
 
 pub returns-then-not-conflict : goal.returns-then-not-conflict

@@ -1,5 +1,4 @@
 -- `counters::raised_if` meets its contract. Assumes nothing.
-use borrow.Author.Rules.{rules}
 use Rattle.counters.specs.Counters.{raised_if}
 use Rattle.counters.proofs.raised_if.Goals as goal
 

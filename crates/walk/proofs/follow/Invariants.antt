@@ -1,11 +1,9 @@
 -- `walk::follow` meets its contract. The loop's invariant: what is left to follow from here is the whole walk. Assumes nothing.
-use mathlib.Core.Path.{◌≡◌, sym, ◌∙◌}
+use mathlib.Core.Path.{◌≡◌}
 use Prim.Native.Nat.{◌-◌, ◌≤◌}
-use native.Mathlib.Omega.{arith}
 use Rattle.pool.specs.Memory.{mem}
 use Rattle.walk.specs.Walks.{longest_path, follow_of}
-use Rattle.walk.proofs.Walks.{follow_from, follow-start, follow_down, follow_stop, follow_spent}
-use borrow.Author.Rules.{rules}
+use Rattle.walk.proofs.Walks.{follow_from}
 use Rattle.walk.proofs.follow.Given as goal
 
 abbrev pub invariant-loop-visits : goal.invariant-loop-visits

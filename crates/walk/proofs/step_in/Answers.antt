@@ -4,7 +4,6 @@ use native.Mathlib.Omega.{arith}
 use Rattle.pool.specs.declared.Slot.TheVariants.{Null}
 use Rattle.walk.specs.Walks.{step_in}
 use Rattle.walk.proofs.Walks.{step-says, step-found}
-use borrow.Author.Rules.{rules}
 use Rattle.walk.proofs.step_in.Goals as goal
 
 pub returns-then-slots-q : goal.returns-then-slots-q
@@ -20,14 +19,14 @@ returns-in-Null c =
 pub returns-in-Data : goal.returns-in-Data
 unfolding step_in
 returns-in-Data c =
-    step-says _ _ _ c.slot_of-j.result _ c.slot_of-j.ensures.0 refl _ (sym c.k-1.given.1 ∙ c.slot_at.ensures)
+    step-says _ _ _ c.slot_of-j.result _ c.slot_of-j.ensures.0 refl _ (c.in-Data.ensures)
 
 pub returns-in-Child : goal.returns-in-Child
 unfolding step_in
 returns-in-Child c =
-    step-says _ _ _ c.slot_of-j.result _ c.slot_of-j.ensures.0 refl _ (sym c.c-1.given.1 ∙ c.slot_at.ensures)
+    step-says _ _ _ c.slot_of-j.result _ c.slot_of-j.ensures.0 refl _ (c.in-Child.ensures)
 
 pub returns-in-Broken : goal.returns-in-Broken
 unfolding step_in
 returns-in-Broken c =
-    step-says _ _ _ c.slot_of-j.result _ c.slot_of-j.ensures.0 refl _ (sym c.b-1.given.1 ∙ c.slot_at.ensures)
+    step-says _ _ _ c.slot_of-j.result _ c.slot_of-j.ensures.0 refl _ (c.in-Broken.ensures)

@@ -1,13 +1,9 @@
 -- `walk::trace` meets its contract. The loop's invariant: what is left to follow from here is the whole walk. Assumes nothing.
-use mathlib.Core.Path.{◌≡◌, sym, ◌∙◌}
-use Prim.Native.Nat.{◌-◌, ◌≤◌}
+use mathlib.Core.Path.{sym}
 use native.Mathlib.Omega.{arith}
-use lib.ListN.{length, length-set}
+use lib.ListN.{length-set}
 use Rattle.pool.proofs.Nodes.{good-node}
-use Rattle.pool.specs.Memory.{mem}
-use Rattle.walk.specs.Walks.{longest_path, trace_of}
-use Rattle.walk.proofs.Walks.{step-good, step-broken, push, trace_from, trace-start, trace_down, trace_stop, trace_spent, empty-len, empty-nodes}
-use borrow.Author.Rules.{rules}
+use Rattle.walk.proofs.Walks.{step-good, step-broken, push, trace-start, trace_down, trace_stop, trace_spent, empty-len, empty-nodes}
 use Rattle.walk.proofs.trace.Goals as goal
 
 pub loop-path-init : goal.loop-path-init
@@ -16,24 +12,24 @@ loop-path-init c = (rw (empty-len _ c.new-path.ensures) (omega arith), empty-nod
 pub returns-in-Broken : goal.returns-in-Broken
 unfolding push
 returns-in-Broken c =
-    trace_stop _ _ _ _ _ c.loop-path.invariant.2 _ (omega arith) (step-broken _ _ _ _ (sym c.node_at.ensures ∙ c.b-1.given.1))
+    trace_stop _ _ _ _ _ c.loop-path.invariant.2 _ (omega arith) (step-broken _ _ _ _ (sym c.in-Broken.ensures))
 
 pub step_in-requires : goal.step_in-requires
 step_in-requires c =
-    let g = good-node _ _ _ (sym c.node_at.ensures ∙ c.n-1.given.1) in
+    let g = good-node _ _ _ (sym c.in-Good.ensures) in
     record { key_lt_key_bound = c.requires; in_range = g.range; l_bound = g.fits }
 
 pub loop-path-preserved : goal.loop-path-preserved
 unfolding push
 loop-path-preserved c =
-    let s = step-good _ _ _ _ _ (sym c.node_at.ensures ∙ c.n-1.given.1) c.step_in.ensures in
-    (omega arith, simp length-set c.loop-path.invariant.1, trace_down _ _ _ _ _ c.loop-path.invariant.2 _ (omega arith) (sym c.c-1.given.1 ∙ s))
+    let s = step-good _ _ _ _ _ (sym c.in-Good.ensures) c.in-Down.ensures in
+    (omega arith, simp length-set c.loop-path.invariant.1, trace_down _ _ _ _ _ c.loop-path.invariant.2 _ (omega arith) s)
 
 pub returns-in-Stop : goal.returns-in-Stop
 unfolding push
 returns-in-Stop c =
-    let s = step-good _ _ _ _ _ (sym c.node_at.ensures ∙ c.n-1.given.1) c.step_in.ensures in
-    trace_stop _ _ _ _ _ c.loop-path.invariant.2 _ (omega arith) (sym c.end-1.given.1 ∙ s)
+    let s = step-good _ _ _ _ _ (sym c.in-Good.ensures) c.in-Stop.ensures in
+    trace_stop _ _ _ _ _ c.loop-path.invariant.2 _ (omega arith) s
 
 pub returns : goal.returns
 returns c =

@@ -1,13 +1,10 @@
 -- `walk::trace` meets its contract. The loop's invariant: what is left to follow from here is the whole walk. Assumes nothing.
-use mathlib.Core.Path.{◌≡◌, sym, ◌∙◌}
+use mathlib.Core.Path.{◌≡◌}
 use Prim.Native.Nat.{◌-◌, ◌≤◌}
-use native.Mathlib.Omega.{arith}
-use lib.ListN.{length, length-set}
-use Rattle.pool.proofs.Nodes.{good-node}
+use lib.ListN.{length}
 use Rattle.pool.specs.Memory.{mem}
 use Rattle.walk.specs.Walks.{longest_path, trace_of}
-use Rattle.walk.proofs.Walks.{step-good, step-broken, push, trace_from, trace-start, trace_down, trace_stop, trace_spent, empty-len, empty-nodes}
-use borrow.Author.Rules.{rules}
+use Rattle.walk.proofs.Walks.{trace_from}
 use Rattle.walk.proofs.trace.Given as goal
 
 abbrev pub invariant-loop-path : goal.invariant-loop-path

@@ -1,6 +1,5 @@
 -- `walk::reading::after_key` meets its contract (proofs/Siftings). Assumes nothing.
 use Rattle.walk.proofs.Siftings.{holding-none}
-use borrow.Author.Rules.{rules}
 use Rattle.walk.proofs.reading.after_key.Goals as goal
 
 pub returns-then-rules-lt1 : goal.returns-then-rules-lt1

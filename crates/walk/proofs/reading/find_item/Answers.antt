@@ -4,13 +4,6 @@ use mathlib.Core.List.{[]}
 use mathlib.Core.Path.{◌≡◌, refl, sym, ap, ◌∙◌}
 use Prim.Native.Nat.{◌≤◌}
 use native.Mathlib.Omega.{arith}
-use borrow.Author.Rules.{rules}
-use borrow.Author.Tests.{not-true, not-false}
-use lib.ListN.{length}
-use Rattle.pool.specs.Memory.{mem}
-use Rattle.walk.specs.Cursors.{remains, told}
-use Rattle.walk.specs.Items.{items}
-use Rattle.walk.specs.Moves.{below, Stands}
 use Rattle.walk.specs.declared.Event.TheVariants.{End}
 use Rattle.walk.specs.declared.Rules.{Rules}
 use Rattle.walk.proofs.Siftings.{enters, enters_some, enter_stands, enter_fits, element_key, finds_from, finds_unentered, finds_unheld, finds_held, finds_damage, finds_end}
@@ -20,11 +13,11 @@ pub loop-n-init : goal.loop-n-init
 loop-n-init c = (c.requires.stands, ((refl, refl), refl))
 
 pub may_enter-requires : goal.may_enter-requires
-may_enter-requires c = omega (arith, enter_fits _ _ _ _ _ _ _ c.event-1.given.1 c.loop-n.invariant.0, c.well-formed.1.0)
+may_enter-requires c = omega (arith, enter_fits _ _ _ _ _ _ _ c.in-Enter.is c.loop-n.invariant.0, c.well_formed.1.0)
 
 pub returns-then-not-may_enter : goal.returns-then-not-may_enter
 returns-then-not-may_enter c =
-    finds_from c.loop-n.invariant.1.1 (finds_unentered _ _ _ _ _ _ _ _ _ _ c.event-1.given.1 (sym (c.may_enter.ensures _) ∙ c.if-not-may_enter.true))
+    finds_from c.loop-n.invariant.1.1 (finds_unentered _ _ _ _ _ _ _ _ _ _ c.in-Enter.is (sym (c.may_enter.ensures _) ∙ c.if-not-may_enter.true))
 
 pub after_node-left-requires : goal.after_node-left-requires
 after_node-left-requires c = enters_some _ _ _ (sym (c.may_enter.ensures []) ∙ c.if-not-may_enter.false)
@@ -32,7 +25,7 @@ after_node-left-requires c = enters_some _ _ _ (sym (c.may_enter.ensures []) ∙
 pub next-moved-requires : goal.next-moved-requires
 next-moved-requires c =
     let p = c.requires in
-    record { span_fits = p.0; standing = enter_stands _ _ _ _ _ _ _ c.event-1.given.1 c.loop-n.invariant.0; longest_path_in_bounds = (omega (arith, c.loop-n.invariant.1.0, p.1.1), omega (arith, c.loop-n.invariant.1.0, p.1.1)) }
+    record { span_fits = p.span_fits; standing = enter_stands _ _ _ _ _ _ _ c.in-Enter.is c.loop-n.invariant.0; longest_path_in_bounds = (omega (arith, c.loop-n.invariant.1.0, p.longest_path_in_bounds), omega (arith, c.loop-n.invariant.1.0, p.longest_path_in_bounds)) }
 
 pub loop-n-smaller : goal.loop-n-smaller
 loop-n-smaller c =
@@ -41,70 +34,30 @@ loop-n-smaller c =
 
 pub loop-n-preserved : goal.loop-n-preserved
 loop-n-preserved c =
-    let k = c.next-moved.auto.1.1.1.1.1.1 in (
+    let k = c.next-moved.auto in (
       c.next-moved.ensures.stands,
       (
-        (k.0 ∙ c.loop-n.invariant.1.0.0, k.1.0 ∙ c.loop-n.invariant.1.0.1),
-        enters _ _ _ _ _ _ _ _ c.event-1.given.1 (sym (c.may_enter.ensures _) ∙ c.if-not-may_enter.false) c.after_node-left.ensures c.next-moved.ensures.tells ∙ c.loop-n.invariant.1.1,
+        (k.records ∙ c.loop-n.invariant.1.0.0, k.places ∙ c.loop-n.invariant.1.0.1),
+        enters _ _ _ _ _ _ _ _ c.in-Enter.is (sym (c.may_enter.ensures _) ∙ c.if-not-may_enter.false) c.after_node-left.ensures c.next-moved.ensures.tells ∙ c.loop-n.invariant.1.1,
       ),
     )
 
 pub returns-then-not-may_hold : goal.returns-then-not-may_hold
 returns-then-not-may_hold c =
-    finds_from c.loop-n.invariant.1.1 (finds_unheld _ _ _ _ _ _ _ _ _ _ c.event-in-Element-1.given.1 (sym c.may_hold.ensures ∙ c.if-not-may_hold.true))
+    finds_from c.loop-n.invariant.1.1 (finds_unheld _ _ _ _ _ _ _ _ _ _ c.in-Element.is (sym c.may_hold.ensures ∙ c.if-not-may_hold.true))
 
 pub after_key-after-requires : goal.after_key-after-requires
-after_key-after-requires c = element_key _ _ _ _ _ _ _ c.event-in-Element-1.given.1 c.loop-n.invariant.0
+after_key-after-requires c = element_key _ _ _ _ _ _ _ c.in-Element.is c.loop-n.invariant.0
 
 pub returns-in-Element : goal.returns-in-Element
 returns-in-Element c =
-    finds_from c.loop-n.invariant.1.1 (finds_held _ _ _ _ _ _ _ _ _ _ c.event-in-Element-1.given.1 (sym c.may_hold.ensures ∙ c.if-not-may_hold.false) c.loop-n.invariant.0 _ c.after_key-after.ensures)
+    finds_from c.loop-n.invariant.1.1 (finds_held _ _ _ _ _ _ _ _ _ _ c.in-Element.is (sym c.may_hold.ensures ∙ c.if-not-may_hold.false) c.loop-n.invariant.0 _ c.after_key-after.ensures)
 
 pub returns-in-Damage : goal.returns-in-Damage
 returns-in-Damage c =
-    finds_from c.loop-n.invariant.1.1 (finds_damage _ _ _ _ _ _ _ _ _ c.event-in-Damage-1.given.1)
+    finds_from c.loop-n.invariant.1.1 (finds_damage _ _ _ _ _ _ _ _ _ c.in-Damage.is)
 
 pub returns-in-End : goal.returns-in-End
 returns-in-End c =
     let e : c.loop-n.moved.event ≡ End = cc in
     finds_from c.loop-n.invariant.1.1 (finds_end _ _ _ _ _ _ _ _ e)
-
--- MISS
--- same_length : tie.Need-same-length invariant-loop decreases-loop
--- same_length c = c.before.before.before.before.before.before.loop.invariant.1.0.0
-
--- MISS
--- same-length-2 : tie.Need-same-length-2 invariant-loop decreases-loop
--- same-length-2 c = c.before.before.before.before.before.before.loop.invariant.1.0.1
-
--- MISS
--- same-length-3 : tie.Need-same-length-3 invariant-loop decreases-loop
--- same-length-3 c = c.before.before.before.before.before.before.loop.invariant.1.0.0
-
--- MISS
--- same-length-4 : tie.Need-same-length-4 invariant-loop decreases-loop
--- same-length-4 c = c.before.before.before.before.before.before.loop.invariant.1.0.1
-
--- MISS
--- same-length-5 : tie.Need-same-length-5 invariant-loop decreases-loop
--- same-length-5 c = c.before.before.before.before.before.before.before.loop.invariant.1.0.0
-
--- MISS
--- same-length-6 : tie.Need-same-length-6 invariant-loop decreases-loop
--- same-length-6 c = c.before.before.before.before.before.before.before.loop.invariant.1.0.1
-
--- MISS
--- same-length-7 : tie.Need-same-length-7 invariant-loop decreases-loop
--- same-length-7 c = c.before.before.before.before.loop.invariant.1.0.0
-
--- MISS
--- same-length-8 : tie.Need-same-length-8 invariant-loop decreases-loop
--- same-length-8 c = c.before.before.before.before.loop.invariant.1.0.1
-
--- MISS
--- same-length-9 : tie.Need-same-length-9 invariant-loop decreases-loop
--- same-length-9 c = c.before.before.before.loop.invariant.1.0.0
-
--- MISS
--- same-length-10 : tie.Need-same-length-10 invariant-loop decreases-loop
--- same-length-10 c = c.before.before.before.loop.invariant.1.0.1

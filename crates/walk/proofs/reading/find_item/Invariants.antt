@@ -1,19 +1,11 @@
 -- `walk::reading::find_item` meets its contract. The loop's invariant: the items of what is left from here are those of what was left
 -- where it began (proofs/Siftings). The measure is how many nodes may still be entered. Assumes nothing.
-use mathlib.Core.List.{[]}
-use mathlib.Core.Path.{◌≡◌, refl, sym, ap, ◌∙◌}
-use Prim.Native.Nat.{◌≤◌}
-use native.Mathlib.Omega.{arith}
-use borrow.Author.Rules.{rules}
-use borrow.Author.Tests.{not-true, not-false}
+use mathlib.Core.Path.{◌≡◌}
 use lib.ListN.{length}
 use Rattle.pool.specs.Memory.{mem}
 use Rattle.walk.specs.Cursors.{remains, told}
 use Rattle.walk.specs.Items.{items}
 use Rattle.walk.specs.Moves.{below, Stands}
-use Rattle.walk.specs.declared.Event.TheVariants.{End}
-use Rattle.walk.specs.declared.Rules.{Rules}
-use Rattle.walk.proofs.Siftings.{enters, enters_some, enter_stands, enter_fits, element_key, finds_from, finds_unentered, finds_unheld, finds_held, finds_damage, finds_end}
 use Rattle.walk.proofs.reading.find_item.Given as goal
 
 abbrev pub invariant-loop-n : goal.invariant-loop-n

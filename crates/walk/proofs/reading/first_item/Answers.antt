@@ -1,7 +1,6 @@
 -- `walk::reading::first_item` meets its contract: the first event, and from it on (proofs/Siftings). Assumes nothing.
 use mathlib.Core.List.{[]}
 use Rattle.walk.proofs.Siftings.{finds_of}
-use borrow.Author.Rules.{rules}
 use Rattle.walk.proofs.reading.first_item.Goals as goal
 
 pub find_item-requires : goal.find_item-requires

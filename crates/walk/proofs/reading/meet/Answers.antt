@@ -4,7 +4,6 @@ use native.Mathlib.Omega.{arith}
 use Rattle.pool.proofs.Nodes.{good-node}
 use Rattle.pool.specs.declared.Slot.TheVariants.{Null}
 use Rattle.walk.proofs.Readings.{slot-inside, not_null, meets_element, meets_broken-slot}
-use borrow.Author.Rules.{rules}
 use Rattle.walk.proofs.reading.meet.Goals as goal
 
 pub slot_at-requires : goal.slot_at-requires
@@ -18,15 +17,15 @@ overflow_add-result c = omega (arith, slot-inside _ _ _ _ c.requires.standing c.
 pub descend-requires : goal.descend-requires
 descend-requires c =
     let p = c.requires in
-    record { span_fits = p.0; standing = p.1.0; at_lt_end = p.1.1.0; at_value = sym c.slot_at.ensures ∙ c.r-1.given.1; longest_path_in_bounds = p.1.1.1.1 }
+    record { span_fits = p.span_fits; standing = p.standing; at_lt_end = p.at_lt_end; at_value = sym c.in-Child.ensures; longest_path_in_bounds = p.longest_path_in_bounds }
 
 pub returns-in-Data : goal.returns-in-Data
 returns-in-Data c =
-    meets_element _ _ _ _ _ _ c.requires.standing c.requires.at_lt_end _ (sym c.slot_at.ensures ∙ c.k-1.given.1)
+    meets_element _ _ _ _ _ _ c.requires.standing c.requires.at_lt_end _ (sym c.in-Data.ensures)
 
 pub returns-in-Broken : goal.returns-in-Broken
 returns-in-Broken c =
-    meets_broken-slot _ _ _ _ _ _ c.requires.standing c.requires.at_lt_end _ (sym c.slot_at.ensures ∙ c.b-1.given.1)
+    meets_broken-slot _ _ _ _ _ _ c.requires.standing c.requires.at_lt_end _ (sym c.in-Broken.ensures)
 
 pub returns-in-Null : goal.returns-in-Null
 returns-in-Null c =

@@ -1,14 +1,8 @@
 -- `walk::reading::next` meets its contract. The loop goes up from node to node; its invariant: what is left from here is what was
 -- left where the step began (proofs/Readings). The measure is the depth. Assumes nothing.
-use mathlib.Core.Path.{◌≡◌, refl, sym, ◌∙◌}
-use Prim.Native.Nat.{◌-◌}
+use mathlib.Core.Path.{refl, sym, ◌∙◌}
 use native.Mathlib.Omega.{arith}
-use borrow.Author.Rules.{rules}
-use lib.ListN.{length}
 use Rattle.pool.proofs.Nodes.{good-node}
-use Rattle.pool.specs.Memory.{mem}
-use Rattle.walk.specs.Cursors.{remains}
-use Rattle.walk.specs.Moves.{below, Standing}
 use Rattle.walk.proofs.Readings.{slots-inside, moves_from, skipped, goes_up, meets_end, meets_broken-above}
 use Rattle.walk.proofs.reading.next.Goals as goal
 
@@ -22,7 +16,7 @@ pub meet-requires : goal.meet-requires
 meet-requires c =
     let p = c.requires in
     let l = c.loop-n.invariant in
-    record { span_fits = p.0; standing = record { reads = l.0.reads; ends = l.0.ends; deep = l.0.deep }; at_lt_end = c.if-at-end.true; kind_unit_bound = c.skip_null-at.ensures.stops c.if-at-end.true; longest_path_in_bounds = (omega (arith, l, p.1.1), omega (arith, l, p.1.1)) }
+    record { span_fits = p.span_fits; standing = record { reads = l.0.reads; ends = l.0.ends; deep = l.0.deep }; at_lt_end = c.if-at-end.true; kind_unit_bound = c.skip_null-at.ensures.stops c.if-at-end.true; longest_path_in_bounds = (omega (arith, l, p.longest_path_in_bounds), omega (arith, l, p.longest_path_in_bounds)) }
 
 pub returns-then-at-end : goal.returns-then-at-end
 returns-then-at-end c =
@@ -37,7 +31,7 @@ bounds-records-depth c = omega (arith, c.loop-n.invariant, c.requires.longest_pa
 
 pub past_last-end-requires : goal.past_last-end-requires
 past_last-end-requires c =
-    let g = good-node _ _ _ (sym c.node_at.ensures ∙ c.n-in-Good-1.given.1) in
+    let g = good-node _ _ _ (sym c.in-Good.ensures) in
     record { in_range = g.range; span_fits = c.requires.span_fits }
 
 pub bounds-places-depth : goal.bounds-places-depth
@@ -46,7 +40,7 @@ bounds-places-depth c = omega (arith, c.loop-n.invariant, c.requires.longest_pat
 pub loop-n-preserved : goal.loop-n-preserved
 loop-n-preserved c =
     let l = c.loop-n in
-    let e = sym c.node_at.ensures ∙ c.n-in-Good-1.given.1 in
+    let e = sym c.in-Good.ensures in
     let q = c.past_last-end.ensures in (
       record { reads = e; ends = q; deep = omega (arith, l.invariant.0.deep) },
       (l.invariant.1.0, goes_up _ _ _ _ _ _ c.if-at-end.false l.invariant.0.deep c.if-c-lt1.false _ refl _ _ e q ∙ skipped _ _ _ l.c _ _ c.skip_null-at.result c.skip_null-at.ensures ∙ l.invariant.1.1),
@@ -54,29 +48,5 @@ loop-n-preserved c =
 
 pub returns-in-Broken : goal.returns-in-Broken
 returns-in-Broken c =
-    let e = sym c.node_at.ensures ∙ c.b-1.given.1 in
+    let e = sym c.in-Broken.ensures in
     moves_from (skipped _ _ _ c.loop-n.c _ _ c.skip_null-at.result c.skip_null-at.ensures ∙ c.loop-n.invariant.1.1) (meets_broken-above _ _ _ _ _ _ c.if-at-end.false c.loop-n.invariant.0.deep c.if-c-lt1.false _ refl _ _ e)
-
--- MISS
--- same_length : tie.Need-same-length invariant-loop decreases-loop
--- same_length c = c.before.before.before.before.meet.auto.1.1.1.1.1.1.0 ∙ c.before.before.before.before.before.before.before.before.before.before.loop.invariant.1.0.0
-
--- MISS
--- same-length-2 : tie.Need-same-length-2 invariant-loop decreases-loop
--- same-length-2 c = c.before.before.before.before.meet.auto.1.1.1.1.1.1.1.0 ∙ c.before.before.before.before.before.before.before.before.before.before.loop.invariant.1.0.1
-
--- MISS
--- same-length-3 : tie.Need-same-length-3 invariant-loop decreases-loop
--- same-length-3 c = c.before.before.before.before.before.loop.invariant.1.0.0
-
--- MISS
--- same-length-4 : tie.Need-same-length-4 invariant-loop decreases-loop
--- same-length-4 c = c.before.before.before.before.before.loop.invariant.1.0.1
-
--- MISS
--- same-length-5 : tie.Need-same-length-5 invariant-loop decreases-loop
--- same-length-5 c = c.before.before.before.before.before.before.before.before.before.before.before.loop.invariant.1.0.0
-
--- MISS
--- same-length-6 : tie.Need-same-length-6 invariant-loop decreases-loop
--- same-length-6 c = c.before.before.before.before.before.before.before.before.before.before.before.loop.invariant.1.0.1

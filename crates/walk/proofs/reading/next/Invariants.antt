@@ -1,15 +1,10 @@
 -- `walk::reading::next` meets its contract. The loop goes up from node to node; its invariant: what is left from here is what was
 -- left where the step began (proofs/Readings). The measure is the depth. Assumes nothing.
-use mathlib.Core.Path.{◌≡◌, refl, sym, ◌∙◌}
-use Prim.Native.Nat.{◌-◌}
-use native.Mathlib.Omega.{arith}
-use borrow.Author.Rules.{rules}
+use mathlib.Core.Path.{◌≡◌}
 use lib.ListN.{length}
-use Rattle.pool.proofs.Nodes.{good-node}
 use Rattle.pool.specs.Memory.{mem}
 use Rattle.walk.specs.Cursors.{remains}
 use Rattle.walk.specs.Moves.{below, Standing}
-use Rattle.walk.proofs.Readings.{slots-inside, moves_from, skipped, goes_up, meets_end, meets_broken-above}
 use Rattle.walk.proofs.reading.next.Given as goal
 
 abbrev pub invariant-loop-n : goal.invariant-loop-n

@@ -4,14 +4,13 @@ use Prim.Native.Nat.{ℕ, ◌+◌}
 use Rattle.walk.specs.Moves.{SpanFits}
 use Rattle.walk.specs.declared.Span.TheVariants.{Whole}
 use Rattle.walk.proofs.Readings.{last_between, last_whole}
-use borrow.Author.Rules.{rules}
 use Rattle.walk.proofs.reading.past_last.Goals as goal
 
 pub slot_of-requires : goal.slot_of-requires
-slot_of-requires c = record { in_range = c.requires.in_range; x_lt_value_bound = (subst SpanFits c.span-1.given.1 c.requires.span_fits).1 }
+slot_of-requires c = record { in_range = c.requires.in_range; x_lt_value_bound = (subst SpanFits c.in-Between.is c.requires.span_fits).1 }
 
 pub returns-in-Between : goal.returns-in-Between
-returns-in-Between c = ap (λ (x : ℕ). x + 1) c.slot_of.ensures.0 ∙ last_between _ _ _ _ (sym c.span-1.given.1)
+returns-in-Between c = ap (λ (x : ℕ). x + 1) c.slot_of.ensures.0 ∙ last_between _ _ _ _ (sym c.in-Between.is)
 
 pub returns-in-Whole : goal.returns-in-Whole
 returns-in-Whole c = let e : Whole ≡ c.args.span = cc in last_whole _ _ c.requires.in_range e

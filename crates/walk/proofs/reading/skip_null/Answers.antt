@@ -1,10 +1,8 @@
 -- `walk::reading::skip_null` meets its contract. The loop's invariant: the slots from here on add what all of them do, since NULL
 -- slots add nothing (proofs/Readings). Assumes nothing.
 use mathlib.Core.Path.{refl}
-use Prim.Native.Nat.{◌-◌}
 use native.Mathlib.Omega.{arith}
-use borrow.Author.Rules.{rules}
-use Rattle.walk.proofs.Readings.{SameTo, skip_one}
+use Rattle.walk.proofs.Readings.{skip_one}
 use Rattle.walk.proofs.reading.skip_null.Goals as goal
 
 pub loop-j-init : goal.loop-j-init
