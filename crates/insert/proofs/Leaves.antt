@@ -1,18 +1,17 @@
 -- The small steps of an insert: scratch's sizes, the slot above a node of the path, what the slot at the path's end and the slot above
 -- hold afterwards, and whether the due subtree is sound. Assumes nothing.
-use mathlib.Core.Bool.{Bool, true, false, ◌&&◌}
+use mathlib.Core.Bool.{Bool, true, false}
 use mathlib.Core.List.{List}
 use mathlib.Core.Path.{◌≡◌, refl, sym, ap, ◌∙◌}
 use Prim.Native.Nat.{ℕ, zero, suc, ◌+◌, ◌-◌, ◌<◌, ◌≤◌}
 use native.Mathlib.Omega.{arith}
 use borrow.Author.Tests.{le-leb, lt-leb, leb-true, eq-eqb, ne_eqb, eqb-true, lt-ltb, le-ltb}
-use lib.Dec.{leb, eqb, ltb}
+use lib.Dec.{leb, eqb}
 use lib.ListN.{length, get_or, take}
 use lib.Seq.{get_or-take, length-take-le}
 use Rattle.insert.specs.Inserting.{scratch_fits, settled, slot_above, hung, sound_due}
 use Rattle.insert.specs.Steps.{Sized, GoodPath}
 use Rattle.laws.proofs.Tests.{and_both}
-use Rattle.laws.specs.Pick.{pick}
 use Rattle.model.proofs.Slots.{slot_under}
 use Rattle.model.specs.Slots.{value_of, slot_of}
 use Rattle.pool.proofs.Nodes.{GoodNode, good-node}
@@ -20,10 +19,9 @@ use Rattle.pool.specs.Memory.{Mem, slots_in}
 use Rattle.pool.specs.Reading.{node_in, node_at}
 use Rattle.pool.specs.Writing.{put_data, put_child}
 use Rattle.pool.specs.declared.Node.{Node}
-use Rattle.pool.specs.declared.Record.{Record}
 use Rattle.pool.specs.declared.Record.TheVariants.{Good, Broken}
 use Rattle.rebuild.specs.Rebuilding.{sound_below, scratch}
-use Rattle.walk.specs.Walks.{longest_path, key_slot}
+use Rattle.walk.specs.Walks.{key_slot}
 use Rattle.walk.specs.declared.Path.{Path}
 
 -- scratch

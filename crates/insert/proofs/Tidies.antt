@@ -8,26 +8,25 @@ use borrow.Author.Tests.{lt-ltb, le-ltb}
 use lib.Dec.{leb, ltb}
 use lib.ListN.{length, get_or, take}
 use Rattle.build.proofs.Kept.{build-within}
-use Rattle.build.specs.Building.{Out, out, build}
+use Rattle.build.specs.Building.{Out, out}
 use Rattle.build.specs.Sizes.{depth_of}
 use Rattle.build.specs.declared.Built.{Built}
 use Rattle.build.specs.declared.Built.TheVariants.{At, NoRoom as Roomless}
 use Rattle.counters.specs.Counters.{due_in}
 use Rattle.insert.proofs.Leaves.{path-length, path-place}
 use Rattle.insert.proofs.Standings.{leaves, done_at}
-use Rattle.insert.specs.Inserting.{Insert, insertion, not_due, put_off, whole_tree, Fresh, fresh, held_payload, slot_above, sound_due, standing, replaced, tidy_ends, tidy_by, tidy_of, pair_ends, pair_by, settle_at, settle_of, whole_ends, whole_by, whole_of, inserted}
+use Rattle.insert.specs.Inserting.{Insert, not_due, put_off, whole_tree, Fresh, fresh, held_payload, slot_above, sound_due, standing, replaced, tidy_ends, tidy_of, pair_ends, settle_at, settle_of, whole_ends, whole_of, inserted}
 use Rattle.insert.specs.Steps.{Ready, Sized}
-use Rattle.insert.specs.declared.Inserted.TheVariants.{Done, NoRoom, Damage}
+use Rattle.insert.specs.declared.Inserted.TheVariants.{NoRoom, Damage}
 use Rattle.insert.specs.declared.Inserting.{Inserting}
 use Rattle.laws.proofs.Tests.{both}
-use Rattle.laws.specs.Pick.{pick}
 use Rattle.pool.proofs.Growth.{Grows}
 use Rattle.pool.specs.Memory.{Mem, records_in}
 use Rattle.rebuild.proofs.Conflicts.{pair-roomless}
 use Rattle.rebuild.proofs.Grown.{pair_grows, grown-sound, grown-nodes, grown-keys, grown-payloads}
-use Rattle.rebuild.specs.Judging.{Pooled, Gatherable, Rebuildable}
+use Rattle.rebuild.specs.Judging.{Pooled, Rebuildable}
 use Rattle.rebuild.specs.Pairs.{PairFits, pair_if, pair_of}
-use Rattle.rebuild.specs.Rebuilding.{sound_below, keys_with, payloads_with, afresh, swapped, swap, in_place, Scratch, Rebuilt, rebuilt, rebuild_over, rebuild_of}
+use Rattle.rebuild.specs.Rebuilding.{sound_below, keys_with, payloads_with, afresh, swapped, in_place, Scratch, Rebuilt, rebuilt, rebuild_over, rebuild_of}
 use Rattle.rebuild.specs.Zeroing.{Met, nodes_below}
 use Rattle.store.specs.declared.Handle.{Handle}
 use Rattle.walk.specs.Walks.{longest_path}

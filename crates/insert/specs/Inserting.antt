@@ -1,7 +1,7 @@
 -- Insert (document 01, "The calls" and "Numbers of the answers"), on every input: the answer, the next handle, every word of the pools
 -- and of scratch. Refusals come in the order 1, 2, 9 on the path, 5, 7, 9 in a subtree to be rebuilt, 8. Definitions only.
 use Rattle.std.specs.Prelude.{Bool, true, false, ◌&&◌, List, [], ◌∷◌, ℕ, zero, suc, ◌+◌, ltb, leb, eqb, length, get_or, take}
-use Rattle.build.specs.Building.{Out, with_slots}
+use Rattle.build.specs.Building.{Out}
 use Rattle.build.specs.declared.Built.{Built}
 use Rattle.build.specs.declared.Built.TheVariants.{At, NoRoom as Roomless}
 use Rattle.counters.specs.Counters.{due_in, raise}
@@ -16,7 +16,7 @@ use Rattle.rebuild.specs.Rebuilding.{sound_below, keys_with, payloads_with, Scra
 use Rattle.rebuild.specs.Zeroing.{nodes_below}
 use Rattle.store.specs.Handles.{with_root, with_count, handle_fits}
 use Rattle.store.specs.declared.Handle.{Handle}
-use Rattle.walk.specs.Walks.{longest_path, key_slot, Walk, walk_of}
+use Rattle.walk.specs.Walks.{longest_path, key_slot, walk_of}
 use Rattle.walk.specs.declared.End.{End}
 use Rattle.walk.specs.declared.End.TheVariants.{Empty, Key, Damage as EndDamage}
 use Rattle.insert.specs.declared.Inserted.{Inserted}

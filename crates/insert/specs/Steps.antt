@@ -1,6 +1,6 @@
 -- What the steps of an insert may assume: of the handle, the key and the lent memory, once the refusals before it are past; of the end
 -- of the key's path; and of the places where a tidying stores. Definitions only.
-use Rattle.std.specs.Prelude.{Bool, List, ◌≡◌, ℕ, ◌^◌, ◌<◌, ◌≤◌, length, get_or}
+use Rattle.std.specs.Prelude.{Bool, ◌≡◌, ℕ, ◌^◌, ◌<◌, ◌≤◌, length, get_or}
 use Rattle.counters.specs.Counters.{OnPath}
 use Rattle.laws.specs.Keys.{key_bound}
 use Rattle.model.specs.Choice.{most_keys}

@@ -1,6 +1,6 @@
 -- The line of an answer: a refusal's has its number alone, and that of 0 has what is returned besides. Assumes nothing.
-use mathlib.Core.List.{List, [], ◌∷◌, ◌++◌, append-nil}
-use mathlib.Core.Path.{◌≡◌, refl, sym, ap, ◌∙◌}
+use mathlib.Core.List.{List, [], ◌∷◌, append-nil}
+use mathlib.Core.Path.{◌≡◌, sym, ap, ◌∙◌}
 use Prim.Native.Nat.{ℕ}
 use borrow.Author.Tests.{ne_eqb}
 use Rattle.laws.specs.Answers.{Answer, done}

@@ -1,7 +1,7 @@
 -- A block of operations: what is printed so far, and what is left of the session from there, is the whole; for each way on and out.
 -- Assumes nothing.
 use mathlib.Core.Bool.{Bool, true}
-use mathlib.Core.List.{List, [], ◌∷◌, ◌++◌, append_assoc, append-nil}
+use mathlib.Core.List.{List, [], ◌++◌, append_assoc, append-nil}
 use mathlib.Core.Path.{◌≡◌, refl, sym, ap, ◌∙◌}
 use Prim.Native.Nat.{ℕ, ◌+◌, ◌-◌, ◌<◌, ◌≤◌}
 use native.Mathlib.Omega.{arith}
@@ -9,7 +9,7 @@ use denote.Enum.Declared.{tag_of}
 use lib.ListN.{length, get_or, take, drop, length-drop}
 use lib.Seq.{length-take-le}
 use Rattle.lines.specs.Kinds.{kind_of, body_length, longest_body}
-use Rattle.lines.specs.Lines.{Text, text, write}
+use Rattle.lines.specs.Lines.{text, write}
 use Rattle.lines.specs.declared.Kind.{Kind}
 use Rattle.lines.specs.declared.Kind.TheVariants.{Known, Unknown}
 use Rattle.lines.specs.declared.Operation.{Operation}
@@ -19,12 +19,17 @@ use Rattle.lines.proofs.KindBytes.{known-length}
 use Rattle.lines.proofs.Writing.{written_at}
 use Rattle.operations.specs.Printing.{end_line}
 use Rattle.operations.specs.Sessions.{session}
-use Rattle.operations.specs.Stepping.{State, Step, step_of}
+use Rattle.operations.specs.Stepping.{State, step_of}
 use Rattle.operations.proofs.Sessions.{block_unknown, block_short, block_next, printed-more}
 
 pub unknown-told : (k : Kind) → tag_of the_type k ≡ 1 → k ≡ Unknown
 unknown-told (Known n o) e = absurd (omega arith)
 unknown-told Unknown e = refl
+
+-- and a kind that is not a known one, as an arm after the known ones says it
+pub unknown-left : (k : Kind) → ((n : ℕ) (o : Operation) → k ≡ Known n o → ⊥) → k ≡ Unknown
+unknown-left (Known n o) h = absurd (h n o refl)
+unknown-left Unknown h = refl
 
 longest : (o : Operation) → body_length o ≤ longest_body
 longest Insert = omega arith

@@ -1,5 +1,5 @@
 -- The number of each case of an answer, by the case's place in its enum, and that no case but the first is 0. Assumes nothing.
-use mathlib.Core.List.{List, [], ◌∷◌}
+use mathlib.Core.List.{[], ◌∷◌}
 use mathlib.Core.Logic.{⊎_elim}
 use mathlib.Core.Path.{◌≡◌, refl}
 use Prim.Native.Nat.{ℕ}
@@ -114,3 +114,38 @@ changed-done (Ch.NotHeld v) k = absurd (omega arith)
 changed-done Ch.OutOfRange k = absurd (omega arith)
 changed-done Ch.WrongSizes k = absurd (omega arith)
 changed-done Ch.Damage k = absurd (omega arith)
+
+-- an answer that is not the first case is a refusal, as an arm after the first says it
+pub looked-not-found : (a : Looked) → ((p v : ℕ) → a ≡ Lo.Found p v → ⊥) → (looked a).number ≡ 0 → ⊥
+unfolding looked
+looked-not-found (Lo.Found p v) h e = h p v refl
+looked-not-found (Lo.NotHeld v) h e = omega arith
+looked-not-found Lo.OutOfRange h e = omega arith
+looked-not-found Lo.WrongSizes h e = omega arith
+looked-not-found Lo.Damage h e = omega arith
+
+pub changed-not-done : (a : Changed) → (a ≡ Ch.Done → ⊥) → (changed a).number ≡ 0 → ⊥
+unfolding changed
+changed-not-done Ch.Done h e = h refl
+changed-not-done (Ch.NotHeld v) h e = omega arith
+changed-not-done Ch.OutOfRange h e = omega arith
+changed-not-done Ch.WrongSizes h e = omega arith
+changed-not-done Ch.Damage h e = omega arith
+
+pub listed-not-done : (a : Listed) → ((n more : ℕ) → a ≡ Li.Done n more → ⊥) → (listed a).number ≡ 0 → ⊥
+unfolding listed
+listed-not-done (Li.Done n more) h e = h n more refl
+listed-not-done Li.WrongSizes h e = omega arith
+listed-not-done Li.OutOfRange h e = omega arith
+listed-not-done Li.Reversed h e = omega arith
+listed-not-done Li.Damage h e = omega arith
+
+pub inserted-not-done : (a : Inserted) → ((c t : ℕ) → a ≡ In.Done c t → ⊥) → (inserted a).number ≡ 0 → ⊥
+unfolding inserted
+inserted-not-done (In.Done c t) h e = h c t refl
+inserted-not-done In.WrongSizes h e = omega arith
+inserted-not-done In.OutOfRange h e = omega arith
+inserted-not-done In.Held h e = omega arith
+inserted-not-done In.Full h e = omega arith
+inserted-not-done In.NoRoom h e = omega arith
+inserted-not-done In.Damage h e = omega arith

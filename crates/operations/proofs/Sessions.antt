@@ -1,23 +1,20 @@
 -- A session, operation by operation: what its first byte makes of it, whatever follows, and what is printed of it in a lent list.
 -- Assumes nothing.
-use mathlib.Core.Bool.{true, false}
-use mathlib.Core.List.{List, [], ◌∷◌, ◌++◌, append_assoc}
+use mathlib.Core.List.{List, [], ◌∷◌, ◌++◌}
 use mathlib.Core.Path.{◌≡◌, refl, sym, ap, ◌∙◌}
 use Prim.Native.Nat.{ℕ, zero, suc, ◌+◌, ◌-◌, ◌<◌, ◌≤◌}
 use native.Mathlib.Omega.{arith}
 use borrow.Author.Tests.{le-leb, lt-leb}
-use lib.Dec.{leb}
-use lib.ListN.{length, get_or, take, drop, length-append, length-drop, length-take}
-use lib.Seq.{sets, sets-eq, drop-cons, drop-drop, take-append-le, drop-append-le, take-append_seam, length-take-le, drop-length, take_all}
-use Rattle.laws.specs.Pick.{pick}
+use lib.ListN.{length, get_or, take, drop, length-append, length-drop}
+use lib.Seq.{sets-eq, drop-cons, drop-drop, take-append-le, drop-append-le, take-append_seam, length-take-le}
 use Rattle.lines.specs.Kinds.{kind_of}
-use Rattle.lines.specs.Lines.{Text, text, write}
+use Rattle.lines.specs.Lines.{Text, write}
 use Rattle.lines.specs.declared.Kind.{Kind}
 use Rattle.lines.specs.declared.Kind.TheVariants.{Known, Unknown}
 use Rattle.lines.specs.declared.Operation.{Operation}
 use Rattle.operations.specs.Printing.{end_line}
 use Rattle.operations.specs.Sessions.{by_kind, session_from, session}
-use Rattle.operations.specs.Stepping.{State, Step, step_of}
+use Rattle.operations.specs.Stepping.{State, step_of}
 
 -- room for more operations than there are changes nothing, if it does so for the rest
 Same : (ℕ → List ℕ → State → List ℕ) → (ℕ → List ℕ → State → List ℕ) → ℕ → Type 0

@@ -1,21 +1,21 @@
 -- Each operation's step put together: from what its call leaves and what was printed, the whole state and text. Assumes nothing.
 use mathlib.Core.List.{List}
-use mathlib.Core.Path.{◌≡◌, refl, sym, ap, ◌∙◌}
+use mathlib.Core.Path.{◌≡◌, refl, ap, ◌∙◌}
 use Prim.Native.Nat.{ℕ, zero, suc}
 use denote.Enum.Declared.{tag_of}
 use Rattle.delete.specs.Deleting.{delete_of}
-use Rattle.insert.specs.Inserting.{Insert, insert_of}
+use Rattle.insert.specs.Inserting.{insert_of}
 use Rattle.lines.specs.Lines.{Text, write}
 use Rattle.lines.specs.declared.Operation.{Operation}
 use Rattle.lines.specs.declared.Operation.TheVariants.{Insert as Inserts, Delete, Lookup, Band as Lists, Replace}
 use Rattle.lines.specs.contracts.Operation.{the_type}
 use Rattle.pool.specs.Memory.{Mem}
 use Rattle.rebuild.specs.Rebuilding.{Scratch}
-use Rattle.store.specs.Bands.{Band, band_of}
-use Rattle.store.specs.Calls.{Call, lookup_of, replace_of}
+use Rattle.store.specs.Bands.{band_of}
+use Rattle.store.specs.Calls.{lookup_of, replace_of}
 use Rattle.store.specs.declared.Handle.{Handle}
 use Rattle.operations.specs.Printing.{answer_line, band_lines}
-use Rattle.operations.specs.Stepping.{State, state, Step, step, first_key, second_key, payload, step_of, Stepped, stepped, write_step}
+use Rattle.operations.specs.Stepping.{State, state, first_key, second_key, payload, step_of, stepped, write_step}
 
 -- an operation by its place in the enum
 abbrev operation_at : ℕ → Operation

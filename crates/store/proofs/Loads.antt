@@ -1,36 +1,29 @@
 -- Laws of load: its tests, a law for each refusal, and that the sums of the build's sizes decide whether there is room, since
 -- the pools count as empty. Assumes nothing.
-use mathlib.Core.Bool.{Bool, true, false, ◌&&◌}
-use mathlib.Core.List.{List, [], ◌∷◌}
-use mathlib.Core.Path.{◌≡◌, refl, sym, ap, subst, ◌∙◌}
-use Prim.Native.Nat.{ℕ, ◌+◌, ◌*◌, ◌/◌, ◌<◌, ◌≤◌}
+use mathlib.Core.Bool.{true, false}
+use mathlib.Core.List.{List}
+use mathlib.Core.Path.{◌≡◌, refl, sym, ap, ◌∙◌}
+use Prim.Native.Nat.{ℕ, ◌+◌, ◌*◌, ◌<◌, ◌≤◌}
 use native.Mathlib.Omega.{arith}
-use borrow.Author.Tests.{eq-eqb, le-leb, lt-leb, eqb-true}
-use lib.Dec.{leb, eqb}
-use lib.ListN.{length, replicate, length-replicate}
+use borrow.Author.Tests.{le-leb, lt-leb, eqb-true}
+use lib.Dec.{eqb}
+use lib.ListN.{length, length-replicate}
 use Rattle.build.proofs.Rooms.{empty_builds, builds_empty}
 use Rattle.build.specs.Building.{Out, out, build}
-use Rattle.build.specs.Hints.{Sized, Hinted}
-use Rattle.build.specs.Sizes.{sizes_of, total}
+use Rattle.build.specs.Hints.{Sized}
 use Rattle.build.specs.declared.Built.{Built}
 use Rattle.build.specs.declared.Built.TheVariants.{At, NoRoom as Roomless}
 use Rattle.laws.proofs.Tests.{and_both}
-use Rattle.laws.specs.Answers.{done, refused, refused_with, wrong_sizes, out_of_range, not_rising, full, no_room}
-use Rattle.laws.specs.Keys.{Rising}
-use Rattle.laws.specs.Pick.{pick}
 use Rattle.model.proofs.Heights.{height-within}
-use Rattle.model.specs.Choice.{most_keys}
 use Rattle.model.specs.Height.{height}
-use Rattle.pool.specs.Memory.{Mem, mem, records_in, slots_in}
+use Rattle.pool.specs.Memory.{Mem, records_in, slots_in}
 use Rattle.store.proofs.Faults.{faultless_rises}
-use Rattle.store.proofs.Fitting.{Limits, Pools, limits_given, pools_given}
-use Rattle.store.specs.Calls.{Call, call}
-use Rattle.store.specs.Handles.{new_handle, limits_hold, pools_are, no_handle, map_words}
-use Rattle.store.specs.Loading.{first_fault, emptied, load_fits, load_built, load_from, load_tree, load_list, load_of, loaded, Loadable, Roomy}
-use Rattle.store.specs.declared.Fault.{Fault}
+use Rattle.store.proofs.Fitting.{limits_given, pools_given}
+use Rattle.store.specs.Calls.{Call}
+use Rattle.store.specs.Handles.{new_handle, limits_hold, pools_are}
+use Rattle.store.specs.Loading.{first_fault, emptied, load_fits, load_built, load_tree, load_list, load_of, loaded, Loadable, Roomy}
 use Rattle.store.specs.declared.Fault.TheVariants.{Nothing, OutOfRange as KeyOutOfRange, NotRising as KeyNotRising}
 use Rattle.store.specs.declared.Handle.{Handle}
-use Rattle.store.specs.declared.Loaded.{Loaded}
 use Rattle.store.specs.declared.Loaded.TheVariants.{Done, WrongSizes, Full, OutOfRange, NotRising, NoRoom}
 use Rattle.walk.specs.Walks.{longest_path}
 

@@ -1,23 +1,22 @@
 -- The search that lookup, replace and delete begin with: a law for each way out, that the slot found is one of the pool's, and
 -- lookup and replace as what they make of the search. Assumes nothing.
-use mathlib.Core.Bool.{Bool, true, false}
-use mathlib.Core.List.{List, [], ◌∷◌}
-use mathlib.Core.Path.{◌≡◌, refl, sym, ap, subst, ◌∙◌}
+use mathlib.Core.Bool.{true, false}
+use mathlib.Core.List.{[], ◌∷◌}
+use mathlib.Core.Path.{◌≡◌, refl, subst}
 use Prim.Native.Nat.{ℕ, ◌<◌, ◌≤◌}
 use native.Mathlib.Omega.{arith}
 use borrow.Author.Tests.{eq-eqb, ne_eqb, lt-ltb, le-ltb}
 use lib.Dec.{ltb, eqb}
 use lib.ListN.{length, get_or, set}
 use Rattle.laws.proofs.Tests.{both}
-use Rattle.laws.specs.Answers.{Answer, done}
+use Rattle.laws.specs.Answers.{done}
 use Rattle.laws.specs.Keys.{key_bound}
-use Rattle.laws.specs.Pick.{pick}
 use Rattle.pool.specs.Memory.{Mem, mem, payload_word, slots_in}
-use Rattle.store.specs.Calls.{Call, call, search_end, search_of, answer_by, lookup_of, replace_of}
+use Rattle.store.specs.Calls.{call, search_end, search_of, answer_by, lookup_of, replace_of}
 use Rattle.store.specs.Handles.{handle_fits}
 use Rattle.store.specs.declared.Handle.{Handle}
 use Rattle.store.specs.declared.Search.{Search}
-use Rattle.store.specs.declared.Search.TheVariants.{At, NotThere, OutOfRange, WrongSizes, Damage}
+use Rattle.store.specs.declared.Search.TheVariants.{At, NotThere, OutOfRange, WrongSizes}
 use Rattle.walk.proofs.Walks.{walk-key-within}
 use Rattle.walk.specs.Walks.{walk_of, follow_of}
 use Rattle.walk.specs.declared.End.{End}

@@ -1,6 +1,6 @@
 -- Lookup and replace (document 01, "The calls" and "Numbers of the answers"), on every input: the answer, the next handle and every
 -- lent word; and what delete shares with them. Refusals come in the order 1, 2, 9, 6. Definitions only.
-use Rattle.std.specs.Prelude.{Bool, List, [], ◌∷◌, ℕ, ltb, eqb, length, get_or, set}
+use Rattle.std.specs.Prelude.{[], ◌∷◌, ℕ, ltb, eqb, length, get_or, set}
 use Rattle.laws.specs.Answers.{Answer, done, refused, refused_with, wrong_sizes, out_of_range, not_held, damage}
 use Rattle.laws.specs.Keys.{key_bound}
 use Rattle.laws.specs.Pick.{pick}
@@ -13,7 +13,7 @@ use Rattle.store.specs.declared.Looked.{Looked}
 use Rattle.store.specs.declared.Looked.TheVariants.{Found, NotHeld as LookNotHeld, OutOfRange as LookOutOfRange, WrongSizes as LookWrongSizes, Damage as LookDamage}
 use Rattle.store.specs.declared.Search.{Search}
 use Rattle.store.specs.declared.Search.TheVariants.{At, NotThere, OutOfRange, WrongSizes, Damage}
-use Rattle.walk.specs.Walks.{Walk, walk_of}
+use Rattle.walk.specs.Walks.{walk_of}
 use Rattle.walk.specs.declared.End.{End}
 use Rattle.walk.specs.declared.End.TheVariants.{Empty, Key, Damage as EndDamage}
 

@@ -6,7 +6,7 @@ use Rattle.build.specs.Building.{Out, build}
 use Rattle.build.specs.Sizes.{sizes_of, total}
 use Rattle.build.specs.declared.Built.{Built}
 use Rattle.build.specs.declared.Built.TheVariants.{At, NoRoom as Roomless}
-use Rattle.laws.specs.Answers.{Answer, done, refused, refused_with, wrong_sizes, out_of_range, not_rising, full, no_room}
+use Rattle.laws.specs.Answers.{done, refused, refused_with, wrong_sizes, out_of_range, not_rising, full, no_room}
 use Rattle.laws.specs.Keys.{key_bound, Rising}
 use Rattle.laws.specs.Pick.{pick}
 use Rattle.model.specs.Choice.{most_keys}
@@ -15,7 +15,6 @@ use Rattle.store.specs.Calls.{Call, call}
 use Rattle.store.specs.Handles.{new_handle, most_records, most_pool_slots, map_words, limits_hold, pools_are, no_handle}
 use Rattle.store.specs.declared.Fault.{Fault}
 use Rattle.store.specs.declared.Fault.TheVariants.{Nothing, OutOfRange as KeyOutOfRange, NotRising as KeyNotRising}
-use Rattle.store.specs.declared.Handle.{Handle}
 use Rattle.store.specs.declared.Loaded.{Loaded}
 use Rattle.store.specs.declared.Loaded.TheVariants.{Done, WrongSizes, Full, OutOfRange, NotRising, NoRoom}
 use Rattle.walk.specs.Walks.{longest_path}

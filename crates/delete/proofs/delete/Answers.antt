@@ -5,24 +5,23 @@ use Rattle.store.specs.Calls.{changed}
 use Rattle.store.specs.declared.Search.TheVariants.{OutOfRange, WrongSizes, Damage}
 use Rattle.store.proofs.Searching.{search_within}
 use Rattle.delete.proofs.Deletes.{delete_by, delete-none, delete-done}
-use borrow.Author.Rules.{rules}
 use Rattle.delete.proofs.delete.Goals as goal
 
 pub returns-then-h-lt1 : goal.returns-then-h-lt1
 unfolding changed
-returns-then-h-lt1 c = rw c.new.ensures (delete-none _ _ _ _ _ (sym c.find.ensures ∙ c.q-1.given.1) c.if-h-lt1.true)
+returns-then-h-lt1 c = rw c.new.ensures (delete-none _ _ _ _ _ (sym c.in-At.ensures) c.if-h-lt1.true)
 
 pub put_null-requires : goal.put_null-requires
-put_null-requires c = omega (arith, search_within _ _ _ _ _ (sym c.find.ensures ∙ c.q-1.given.1))
+put_null-requires c = omega (arith, search_within _ _ _ _ _ (sym c.in-At.ensures))
 
 pub returns-else-h-lt1 : goal.returns-else-h-lt1
 unfolding changed
 returns-else-h-lt1 c =
-    rw (c.new-in-At.ensures, c.with_count.ensures) (delete-done _ _ _ _ _ (sym c.before.before.before.before.before.before.before.find.ensures ∙ c.before.before.before.before.before.q.given.1) (omega arith) _ c.put_null.ensures)
+    rw (c.new-in-At.ensures, c.with_count.ensures) (delete-done _ _ _ _ _ (sym c.in-At.ensures) (omega arith) _ c.put_null.ensures)
 
 pub returns-in-NotThere : goal.returns-in-NotThere
 unfolding changed
-returns-in-NotThere c = rw c.new-in-NotThere.ensures (delete_by _ _ _ _ (sym c.visits-1.given.1 ∙ c.find.ensures))
+returns-in-NotThere c = rw c.new-in-NotThere.ensures (delete_by _ _ _ _ (c.in-NotThere.ensures))
 
 pub returns-in-OutOfRange : goal.returns-in-OutOfRange
 unfolding changed

@@ -1,7 +1,6 @@
 -- `insert::hang` meets its contract. Assumes nothing.
 use native.Mathlib.Omega.{arith}
 use Rattle.insert.proofs.Leaves.{hung-root, hung-slot}
-use borrow.Author.Rules.{rules}
 use Rattle.insert.proofs.hang.Goals as goal
 
 pub returns-then-at-lt1 : goal.returns-then-at-lt1

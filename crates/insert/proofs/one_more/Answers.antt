@@ -1,5 +1,4 @@
 -- `insert::one_more` meets its contract. Assumes nothing.
-use borrow.Author.Rules.{rules}
 use Rattle.insert.proofs.one_more.Goals as goal
 
 pub returns : goal.returns

@@ -1,10 +1,8 @@
 -- `insert::rebuild_whole` meets its contract, way by way (proofs/Tidies). Assumes nothing.
 use mathlib.Core.Path.{◌≡◌, sym, ◌∙◌}
 use native.Mathlib.Omega.{arith}
-use borrow.Author.Tests.{not-true, not-false}
 use Rattle.build.specs.declared.Built.TheVariants.{NoRoom}
 use Rattle.insert.proofs.Tidies.{ready_rebuildable, whole-damage, whole-done, whole-roomless}
-use borrow.Author.Rules.{rules}
 use Rattle.insert.proofs.rebuild_whole.Goals as goal
 
 pub returns-then-not-is_sound : goal.returns-then-not-is_sound
@@ -15,7 +13,7 @@ rebuild-requires c =
     ready_rebuildable c.args.h _ _ _ _ _ c.requires (omega arith) (sym c.is_sound.ensures ∙ c.if-not-is_sound.false)
 
 pub returns-in-At : goal.returns-in-At
-returns-in-At c = whole-done _ _ _ _ _ _ (sym c.is_sound.ensures ∙ c.if-not-is_sound.false) _ _ _ c.rebuild.ensures _ c.r-1.given.1 c.done.ensures
+returns-in-At c = whole-done _ _ _ _ _ _ (sym c.is_sound.ensures ∙ c.if-not-is_sound.false) _ _ _ c.rebuild.ensures _ c.in-At.is c.done.ensures
 
 pub returns-in-NoRoom : goal.returns-in-NoRoom
 returns-in-NoRoom c =

@@ -2,14 +2,13 @@
 use native.Mathlib.Omega.{arith}
 use Rattle.counters.proofs.Traces.{on_path_stays}
 use Rattle.insert.proofs.Standings.{replaced-root, replaced-below}
-use borrow.Author.Rules.{rules}
 use Rattle.insert.proofs.replace_at.Goals as goal
 
 pub hang-requires : goal.hang-requires
-hang-requires c = (λ e. omega (arith, c.requires.stores.above-slot e, c.drop_pair.auto.1.1.1.0), c.requires.r_bound)
+hang-requires c = (λ e. omega (arith, c.requires.stores.above-slot e, c.drop_pair.auto.slots), c.requires.r_bound)
 
 pub raise-requires : goal.raise-requires
-raise-requires c = record { n_le_len = c.requires.stores.within; on_path = on_path_stays _ _ _ (let e = c.drop_pair.auto.1.1.0 in rw e) c.requires.stores.on }
+raise-requires c = record { n_le_len = c.requires.stores.within; on_path = on_path_stays _ _ _ (let e = c.drop_pair.auto.nodes in rw e) c.requires.stores.on }
 
 pub returns-then-at-lt1 : goal.returns-then-at-lt1
 returns-then-at-lt1 c = replaced-root _ _ _ _ _ _ c.args.path _ _ _ _ _ _ _ _ _ _ _ c.requires.stores.within c.drop_pair.ensures c.hang.ensures c.raise.ensures c.if-at-lt1.true c.done.ensures

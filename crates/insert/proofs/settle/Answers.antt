@@ -1,13 +1,11 @@
 -- `insert::settle` meets its contract, way by way (proofs/Tidies). Assumes nothing.
 use mathlib.Core.Path.{◌≡◌, sym, ◌∙◌}
 use native.Mathlib.Omega.{arith}
-use borrow.Author.Tests.{not-true, not-false}
 use Rattle.build.specs.declared.Built.TheVariants.{NoRoom}
 use Rattle.counters.proofs.Dues.{due_among}
 use Rattle.counters.proofs.Traces.{on_path_stays}
 use Rattle.insert.proofs.Leaves.{above_within}
 use Rattle.insert.proofs.Tidies.{settle-damage, settle-roomless, still_sound, settle-tidy, pair_small}
-use borrow.Author.Rules.{rules}
 use Rattle.insert.proofs.settle.Goals as goal
 
 pub returns-then-not-sound_due : goal.returns-then-not-sound_due
@@ -26,10 +24,11 @@ pub tidy-requires : goal.tidy-requires
 tidy-requires c =
     let y = c.requires.ready in
     let d = c.requires.ends in
-    let n = c.build_pair.auto.1.1.1.1.1.0 in
-    let w = c.build_pair.auto.1.1.1.1.1.1.0 in
-    let u = c.build_pair.auto.1.1.1.1.1.1.1.0 in
-    let a = c.due_at-at.ensures in record { ready = record {
+    let n = c.build_pair.auto.nodes in
+    let w = c.build_pair.auto.slots in
+    let u = c.build_pair.auto.used in
+    let a = c.due_at-at.ensures in record {
+      ready = record {
         least = y.least;
         most = y.most;
         space = y.space;
@@ -38,15 +37,18 @@ tidy-requires c =
         payloads = y.payloads;
         places = y.places;
         is_key = y.is_key;
-      }; stores = record {
-          slot = omega (arith, d.slot, w);
-          pair = pair_small _ _ _ _ _ _ _ _ c.build_pair.ensures _ c.c-1.given.1 y.pools;
-          above-slot = λ e. omega (arith, c.slot_above-above.ensures, above_within _ d.sized _ d.good c.args.key c.due_at-at.result e (rw a (due_among _ _ _ _)), w);
-          sized = d.sized;
-          on = on_path_stays _ _ _ (rw n) d.on;
-          within = rw a (due_among _ _ _ _);
-        }; used_value = still_sound _ _ _ _ _ (sym c.sound_due.ensures ∙ c.if-not-sound_due.false) _ _ _ _ _ _ _ c.build_pair.ensures }
+      };
+      stores = record {
+        slot = omega (arith, d.slot, w);
+        pair = pair_small _ _ _ _ _ _ _ _ c.build_pair.ensures _ c.in-At.is y.pools;
+        above-slot = λ e. omega (arith, c.slot_above-above.ensures, above_within _ d.sized _ d.good c.args.key c.due_at-at.result e (rw a (due_among _ _ _ _)), w);
+        sized = d.sized;
+        on = on_path_stays _ _ _ (rw n) d.on;
+        within = rw a (due_among _ _ _ _);
+      };
+      used_value = still_sound _ _ _ _ _ (sym c.sound_due.ensures ∙ c.if-not-sound_due.false) _ _ _ _ _ _ _ c.build_pair.ensures;
+    }
 
 pub returns : goal.returns
 returns c =
-    settle-tidy _ _ _ _ _ _ _ _ _ _ c.due_at-at.ensures (sym c.sound_due.ensures ∙ c.if-not-sound_due.false) _ c.slot_above-above.ensures _ _ c.build_pair.ensures _ _ c.c-1.given.1 c.tidy.ensures
+    settle-tidy _ _ _ _ _ _ _ _ _ _ c.due_at-at.ensures (sym c.sound_due.ensures ∙ c.if-not-sound_due.false) _ c.slot_above-above.ensures _ _ c.build_pair.ensures _ _ c.in-At.is c.tidy.ensures

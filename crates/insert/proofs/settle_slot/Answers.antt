@@ -1,6 +1,5 @@
 -- `insert::settle_slot` meets its contract. Assumes nothing.
 use Rattle.insert.proofs.Leaves.{settled-pair, settled-key}
-use borrow.Author.Rules.{rules}
 use Rattle.insert.proofs.settle_slot.Goals as goal
 
 pub returns-then-conflict : goal.returns-then-conflict

@@ -1,6 +1,5 @@
 -- `insert::sound_due` meets its contract: no subtree, or its reading. Assumes nothing.
 use Rattle.insert.proofs.Leaves.{due_none, due_sound}
-use borrow.Author.Rules.{rules}
 use Rattle.insert.proofs.sound_due.Goals as goal
 
 pub returns-then-path-at : goal.returns-then-path-at

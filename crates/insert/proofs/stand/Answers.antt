@@ -1,6 +1,5 @@
 -- `insert::stand` meets its contract. Assumes nothing.
 use Rattle.insert.proofs.Standings.{stands}
-use borrow.Author.Rules.{rules}
 use Rattle.insert.proofs.stand.Goals as goal
 
 pub returns : goal.returns

@@ -1,10 +1,7 @@
 -- `insert::tidy` meets its contract, way by way (proofs/Tidies). Assumes nothing.
-use mathlib.Core.Path.{◌≡◌, sym}
 use native.Mathlib.Omega.{arith}
-use Rattle.build.specs.declared.Built.TheVariants.{NoRoom}
 use Rattle.counters.proofs.Traces.{on_path_stays}
 use Rattle.insert.proofs.Tidies.{tidy-none, tidy-done, tidy-put_off, new-within, ready_rebuildable, node-sound}
-use borrow.Author.Rules.{rules}
 use Rattle.insert.proofs.tidy.Goals as goal
 
 pub stand-requires : goal.stand-requires
@@ -13,7 +10,7 @@ stand-requires c =
     record { count_lt_capacity = c.requires.ready.space; key_lt_key_bound = c.requires.ready.is_key; stores = record { slot = o.slot; pair = o.pair; above-slot = λ e. absurd (omega arith); sized = o.sized; on = o.on; within = omega arith } }
 
 pub returns-then-path-at : goal.returns-then-path-at
-returns-then-path-at c = tidy-none _ _ _ _ _ _ c.args.t7 c.requires.stores.sized _ _ _ _ _ _ c.if-path-at.true (c.stand.ensures _)
+returns-then-path-at c = tidy-none _ _ _ _ _ _ c.args.path c.requires.stores.sized _ _ _ _ _ _ c.if-path-at.true (c.stand.ensures _)
 
 pub rebuild-requires : goal.rebuild-requires
 rebuild-requires c =
@@ -24,20 +21,20 @@ rebuild-requires c =
 pub replace_at-requires : goal.replace_at-requires
 replace_at-requires c =
     let o = c.requires.stores in
-    let n = c.rebuild.auto.1.1.1.1.1.0 in
-    let w = c.rebuild.auto.1.1.1.1.1.1.0 in
-    let u = c.rebuild.auto.1.1.1.1.1.1.1.0 in record { count_lt_capacity = c.requires.ready.space; pooled = record { mapped = omega (arith, c.requires.ready.pools.mapped, n, w, u); records = omega (arith, c.requires.ready.pools.records, n); slots = omega (arith, c.requires.ready.pools.slots, w) }; stores = record { slot = omega (arith, o.slot, w); pair = o.pair; above-slot = λ e. omega (arith, o.above-slot e, w); sized = o.sized; on = on_path_stays _ _ _ (rw n) o.on; within = o.within }; r_bound = new-within c.args.h _ _ _ _ _ _ _ _ _ c.rebuild.ensures _ c.r-1.given.1 c.requires.ready.pools }
+    let n = c.rebuild.auto.nodes in
+    let w = c.rebuild.auto.slots in
+    let u = c.rebuild.auto.used in record { count_lt_capacity = c.requires.ready.space; pooled = record { mapped = omega (arith, c.requires.ready.pools.mapped, n, w, u); records = omega (arith, c.requires.ready.pools.records, n); slots = omega (arith, c.requires.ready.pools.slots, w) }; stores = record { slot = omega (arith, o.slot, w); pair = o.pair; above-slot = λ e. omega (arith, o.above-slot e, w); sized = o.sized; on = on_path_stays _ _ _ (rw n) o.on; within = o.within }; r_bound = new-within c.args.h _ _ _ _ _ _ _ _ _ c.rebuild.ensures _ c.in-At.is c.requires.ready.pools }
 
 pub stand-requires-in-NoRoom : goal.stand-requires-in-NoRoom
 stand-requires-in-NoRoom c =
     let o = c.requires.stores in
-    let n = c.rebuild.auto.1.1.1.1.1.0 in
-    let w = c.rebuild.auto.1.1.1.1.1.1.0 in
+    let n = c.rebuild.auto.nodes in
+    let w = c.rebuild.auto.slots in
     record { count_lt_capacity = c.requires.ready.space; key_lt_key_bound = c.requires.ready.is_key; stores = record { slot = omega (arith, o.slot, w); pair = o.pair; above-slot = λ e. absurd (omega arith); sized = o.sized; on = on_path_stays _ _ _ (rw n) o.on; within = omega arith } }
 
 pub returns-in-At : goal.returns-in-At
-returns-in-At c = tidy-done _ _ _ _ _ _ c.args.t7 c.requires.stores.sized _ _ _ _ _ _ c.if-path-at.false _ _ _ c.rebuild.ensures _ c.r-1.given.1 (c.replace_at.ensures _)
+returns-in-At c = tidy-done _ _ _ _ _ _ c.args.path c.requires.stores.sized _ _ _ _ _ _ c.if-path-at.false _ _ _ c.rebuild.ensures _ c.in-At.is (c.replace_at.ensures _)
 
 pub returns-in-NoRoom : goal.returns-in-NoRoom
 returns-in-NoRoom c =
-    tidy-put_off _ _ _ _ _ _ c.args.t7 c.requires.stores.sized _ _ _ _ _ _ c.if-path-at.false _ _ _ c.rebuild.ensures c.enum_told-1.given.1 (c.stand-in-NoRoom.ensures _)
+    tidy-put_off _ _ _ _ _ _ c.args.path c.requires.stores.sized _ _ _ _ _ _ c.if-path-at.false _ _ _ c.rebuild.ensures c.in-NoRoom.is (c.stand-in-NoRoom.ensures _)

@@ -1,14 +1,9 @@
 -- `operations::list_elements` meets its contract. The invariant: with the elements from i on written from here, the text is whole.
 -- Assumes nothing.
 use mathlib.Core.Path.{◌≡◌, refl, sym, ◌∙◌}
-use Prim.Native.Nat.{◌+◌, ◌*◌, ◌-◌, ◌≤◌}
-use lib.ListN.{length}
+use Prim.Native.Nat.{◌-◌}
 use native.Mathlib.Omega.{arith}
-use borrow.Author.Rules.{rules}
-use Rattle.lines.specs.Lines.{longest_line, text, write}
-use Rattle.operations.specs.Printing.{element_lines}
 use Rattle.operations.proofs.Elements.{elements-next, elements-end}
-use Rattle.operations.proofs.list_elements.Lts as lts
 use Rattle.operations.proofs.list_elements.Goals as goal
 
 pub loop-i-init : goal.loop-i-init
@@ -26,15 +21,7 @@ loop-i-smaller c = omega (arith, c.loop-i-test.true)
 
 pub loop-i-preserved : goal.loop-i-preserved
 loop-i-preserved c = let e = c.line_of_two-end.ensures in
-    (elements-next _ _ _ _ c.loop-i.i _ c.loop-i-test.true e.0 ∙ c.loop-i.invariant.0, (omega (arith, c.loop-i.invariant.1.0, e.1.0), (e.1.1 ∙ c.loop-i.invariant.1.1.0, omega (arith, c.loop-i-test.true))))
+    (elements-next _ _ _ _ c.loop-i.i _ c.loop-i-test.true e.result_after ∙ c.loop-i.invariant.0, (omega (arith, c.loop-i.invariant.1.0, e.upper_bound.0), (e.upper_bound.1 ∙ c.loop-i.invariant.1.1.0, omega (arith, c.loop-i-test.true))))
 
 pub returns : goal.returns
 returns c = record { result_after = sym (elements-end _ _ _ c.loop-i.i _ c.loop-i-test.false) ∙ c.loop-i.invariant.0; upper_bound = (omega (arith, c.loop-i.invariant.1.0, c.loop-i.invariant.1.1.1), c.loop-i.invariant.1.1.0) }
-
--- MISS
--- shared-slice-read-line-of-two : tie.Need-shared-slice-read-line-of-two invariant-loop decreases-loop
--- shared-slice-read-line-of-two c = omega (arith, c.before.before.before.before.before.before.requires.0.0, c.before.loop-test.true)
-
--- MISS
--- shared-slice-read-line-of-two-2 : tie.Need-shared-slice-read-line-of-two-2 invariant-loop decreases-loop
--- shared-slice-read-line-of-two-2 c = omega (arith, c.before.before.before.before.before.before.before.requires.0.1, c.before.before.loop-test.true)

@@ -1,14 +1,10 @@
 -- `operations::list_elements` meets its contract. The invariant: with the elements from i on written from here, the text is whole.
 -- Assumes nothing.
-use mathlib.Core.Path.{◌≡◌, refl, sym, ◌∙◌}
+use mathlib.Core.Path.{◌≡◌}
 use Prim.Native.Nat.{◌+◌, ◌*◌, ◌-◌, ◌≤◌}
 use lib.ListN.{length}
-use native.Mathlib.Omega.{arith}
-use borrow.Author.Rules.{rules}
 use Rattle.lines.specs.Lines.{longest_line, text, write}
 use Rattle.operations.specs.Printing.{element_lines}
-use Rattle.operations.proofs.Elements.{elements-next, elements-end}
-use Rattle.operations.proofs.list_elements.Lts as lts
 use Rattle.operations.proofs.list_elements.Given as goal
 
 abbrev pub invariant-loop-i : goal.invariant-loop-i

@@ -1,24 +1,25 @@
--- `operations::listed_number` meets its contract: the number of each case (proofs/Refusing). Assumes nothing.
-use mathlib.Core.List.{[], ◌∷◌}
-use mathlib.Core.Path.{sym, ap, ◌∙◌}
-use Prim.Native.Nat.{ℕ}
-use lib.ListN.{get_or}
-use Rattle.operations.proofs.Refusing.{listed-number}
-use borrow.Author.Rules.{rules}
-use Rattle.operations.proofs.listed_number.Lts as lts
+-- `operations::listed_number` meets its contract: the number of each case. Assumes nothing.
+use mathlib.Core.Path.{sym, ap}
+use Rattle.store.specs.Bands.{listed}
+use Rattle.store.specs.declared.Listed.{Listed}
 use Rattle.operations.proofs.listed_number.Goals as goal
 
 pub returns-in-Done : goal.returns-in-Done
-returns-in-Done c = sym (listed-number c.args.a ∙ ap (λ (t : ℕ). get_or (0 ∷ 1 ∷ 2 ∷ 3 ∷ 9 ∷ []) t 0) c.in-Done.keys1)
+unfolding listed
+returns-in-Done c = sym (ap (λ (x : Listed). (listed x).number) c.in-Done.is)
 
 pub returns-in-WrongSizes : goal.returns-in-WrongSizes
-returns-in-WrongSizes c = sym (listed-number c.args.a ∙ ap (λ (t : ℕ). get_or (0 ∷ 1 ∷ 2 ∷ 3 ∷ 9 ∷ []) t 0) c.in-WrongSizes.keys2)
+unfolding listed
+returns-in-WrongSizes c = sym (ap (λ (x : Listed). (listed x).number) c.in-WrongSizes.is)
 
 pub returns-in-OutOfRange : goal.returns-in-OutOfRange
-returns-in-OutOfRange c = sym (listed-number c.args.a ∙ ap (λ (t : ℕ). get_or (0 ∷ 1 ∷ 2 ∷ 3 ∷ 9 ∷ []) t 0) c.in-OutOfRange.keys3)
+unfolding listed
+returns-in-OutOfRange c = sym (ap (λ (x : Listed). (listed x).number) c.in-OutOfRange.is)
 
 pub returns-in-Reversed : goal.returns-in-Reversed
-returns-in-Reversed c = sym (listed-number c.args.a ∙ ap (λ (t : ℕ). get_or (0 ∷ 1 ∷ 2 ∷ 3 ∷ 9 ∷ []) t 0) c.in-Reversed.keys4)
+unfolding listed
+returns-in-Reversed c = sym (ap (λ (x : Listed). (listed x).number) c.in-Reversed.is)
 
 pub returns-in-Damage : goal.returns-in-Damage
-returns-in-Damage c = sym (listed-number c.args.a ∙ ap (λ (t : ℕ). get_or (0 ∷ 1 ∷ 2 ∷ 3 ∷ 9 ∷ []) t 0) c.in-Damage.keys5)
+unfolding listed
+returns-in-Damage c = sym (ap (λ (x : Listed). (listed x).number) c.in-Damage.is)

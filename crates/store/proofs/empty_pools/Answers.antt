@@ -1,6 +1,5 @@
 -- `store::empty_pools` meets its contract. Assumes nothing.
 use Rattle.store.specs.Loading.{emptied}
-use borrow.Author.Rules.{rules}
 use Rattle.store.proofs.empty_pools.Goals as goal
 
 pub returns : goal.returns

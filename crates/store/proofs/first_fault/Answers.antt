@@ -1,13 +1,9 @@
 -- `store::first_fault` meets its contract. The loop's invariant: what is left to search from here is the whole search.
 -- Assumes nothing.
-use mathlib.Core.Path.{◌≡◌, refl}
-use Prim.Native.Nat.{◌-◌, ◌≤◌}
+use mathlib.Core.Path.{refl}
 use native.Mathlib.Omega.{arith}
-use lib.ListN.{length, drop}
-use Rattle.laws.specs.Keys.{key_bound}
-use Rattle.store.specs.Loading.{fault_from, first_fault}
+use Rattle.store.specs.Loading.{first_fault}
 use Rattle.store.proofs.Faults.{fault_none, fault_range, fault_fall, fault_on}
-use borrow.Author.Rules.{rules}
 use Rattle.store.proofs.first_fault.Goals as goal
 
 pub loop-i-init : goal.loop-i-init

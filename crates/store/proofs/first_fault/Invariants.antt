@@ -1,13 +1,10 @@
 -- `store::first_fault` meets its contract. The loop's invariant: what is left to search from here is the whole search.
 -- Assumes nothing.
-use mathlib.Core.Path.{◌≡◌, refl}
+use mathlib.Core.Path.{◌≡◌}
 use Prim.Native.Nat.{◌-◌, ◌≤◌}
-use native.Mathlib.Omega.{arith}
 use lib.ListN.{length, drop}
 use Rattle.laws.specs.Keys.{key_bound}
 use Rattle.store.specs.Loading.{fault_from, first_fault}
-use Rattle.store.proofs.Faults.{fault_none, fault_range, fault_fall, fault_on}
-use borrow.Author.Rules.{rules}
 use Rattle.store.proofs.first_fault.Given as goal
 
 abbrev pub invariant-loop-i : goal.invariant-loop-i

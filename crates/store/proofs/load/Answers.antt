@@ -1,9 +1,7 @@
 -- `store::load` meets its contract: a law for each way out (proofs/Loads). Assumes nothing.
 use mathlib.Core.Path.{◌≡◌, sym, ◌∙◌}
-use borrow.Author.Tests.{not-true, not-false}
 use Rattle.store.proofs.Loads.{loadable, load-sizes, load_full, load-range, load_fall, load_tree-load_of}
 use Rattle.store.specs.declared.Fault.TheVariants.{Nothing, OutOfRange}
-use borrow.Author.Rules.{rules}
 use Rattle.store.proofs.load.Goals as goal
 
 pub returns-then-not-load_fits : goal.returns-then-not-load_fits
@@ -29,4 +27,4 @@ returns-in-OutOfRange c =
 
 pub returns-in-NotRising : goal.returns-in-NotRising
 returns-in-NotRising c =
-    load_fall _ _ _ _ (sym c.load_fits.ensures ∙ c.if-not-load_fits.false) c.if-capacity-keys.false _ (sym c.first_fault.ensures ∙ c.place-1.given.1)
+    load_fall _ _ _ _ (sym c.load_fits.ensures ∙ c.if-not-load_fits.false) c.if-capacity-keys.false _ (sym c.in-NotRising.ensures)

@@ -7,7 +7,6 @@ use Rattle.build.specs.declared.Built.TheVariants.{NoRoom}
 use Rattle.pool.specs.Memory.{Mem}
 use Rattle.walk.specs.Walks.{longest_path}
 use Rattle.store.proofs.Loads.{empty-sized, load-done, load_cannot}
-use borrow.Author.Rules.{rules}
 use Rattle.store.proofs.load_afresh.Goals as goal
 
 pub build_node-g-requires : goal.build_node-g-requires
@@ -19,7 +18,7 @@ returns-in-At c =
     let g = c.build_node-g in
     load-done _ _ _ _ c.requires.loadable c.requires.roomy g.result.built _
     (g.ensures.is ∙ ap (λ (m : Mem). build longest_path c.args.keys.now c.args.payloads.now m) c.empty_pools.ensures)
-    _ _ c.b-1.given.1 c.new.ensures
+    _ _ c.in-At.is c.new.ensures
 
 pub returns-in-NoRoom : goal.returns-in-NoRoom
 returns-in-NoRoom c =

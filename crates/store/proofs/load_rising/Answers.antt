@@ -4,7 +4,6 @@ use native.Mathlib.Omega.{arith}
 use Rattle.build.specs.Counting.{needs_of}
 use Rattle.build.specs.declared.sizes.Needs.{Needs}
 use Rattle.store.proofs.Loads.{load-roomless}
-use borrow.Author.Rules.{rules}
 use Rattle.store.proofs.load_rising.Goals as goal
 
 pub sizes-needs-requires : goal.sizes-needs-requires

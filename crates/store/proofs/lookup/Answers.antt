@@ -4,25 +4,24 @@ use native.Mathlib.Omega.{arith}
 use Rattle.store.specs.Calls.{looked}
 use Rattle.store.specs.declared.Search.TheVariants.{OutOfRange, WrongSizes, Damage}
 use Rattle.store.proofs.Searching.{lookup_by, search_within}
-use borrow.Author.Rules.{rules}
 use Rattle.store.proofs.lookup.Goals as goal
 
 pub overflow_mul-result : goal.overflow_mul-result
-overflow_mul-result c = omega (arith, search_within _ _ _ _ _ (sym c.find.ensures ∙ c.q-1.given.1))
+overflow_mul-result c = omega (arith, search_within _ _ _ _ _ (sym c.in-At.ensures))
 
 pub overflow_add-result : goal.overflow_add-result
-overflow_add-result c = omega (arith, search_within _ _ _ _ _ (sym c.find.ensures ∙ c.q-1.given.1))
+overflow_add-result c = omega (arith, search_within _ _ _ _ _ (sym c.in-At.ensures))
 
 pub offset_bounds-slots-q : goal.offset_bounds-slots-q
-offset_bounds-slots-q c = omega (arith, search_within _ _ _ _ _ (sym c.find.ensures ∙ c.q-1.given.1))
+offset_bounds-slots-q c = omega (arith, search_within _ _ _ _ _ (sym c.in-At.ensures))
 
 pub returns-in-At : goal.returns-in-At
 unfolding looked
-returns-in-At c = lookup_by _ _ _ _ (sym c.q-1.given.1 ∙ c.find.ensures)
+returns-in-At c = lookup_by _ _ _ _ (c.in-At.ensures)
 
 pub returns-in-NotThere : goal.returns-in-NotThere
 unfolding looked
-returns-in-NotThere c = lookup_by _ _ _ _ (sym c.visits-1.given.1 ∙ c.find.ensures)
+returns-in-NotThere c = lookup_by _ _ _ _ (c.in-NotThere.ensures)
 
 pub returns-in-OutOfRange : goal.returns-in-OutOfRange
 unfolding looked
@@ -42,6 +41,5 @@ returns-in-Damage c =
     let e : c.find.result ≡ Damage = cc in
     lookup_by _ _ _ Damage (sym e ∙ c.find.ensures)
 
--- MISS
--- shared-slice-read-t15 : tie.Need-shared-slice-read-t15
--- shared-slice-read-t15 c = omega (arith, search_within _ _ _ _ _ (sym c.before.before.before.before.find.ensures ∙ c.before.before.q.given.1))
+pub bounds-slots-q : goal.bounds-slots-q
+bounds-slots-q c = omega (arith, search_within _ _ _ _ _ (sym c.in-At.ensures))

@@ -1,6 +1,5 @@
 -- `store::pools_are` meets its contract (proofs/Fitting). Assumes nothing.
 use Rattle.store.proofs.Fitting.{pools_fail, pools_last}
-use borrow.Author.Rules.{rules}
 use Rattle.store.proofs.pools_are.Goals as goal
 
 pub returns-then-node_words-records : goal.returns-then-node_words-records
