@@ -10,10 +10,10 @@ ghost use Rattle.pool.specs.Memory.{mem};
 ghost use Rattle.rebuild.specs.Rebuilding.{scratch};
 ghost use Rattle.session.specs.Turns.{Refilled};
 
-use libc::{STDIN_FILENO, STDOUT_FILENO};
 use operations::Next;
 use operations::blocks::Pause;
 use pool::Node;
+use std::io::{Input, Print, Read};
 use store::{Handle, Loaded};
 
 // Where a session stands: the handle, how many bytes of the input lie before those held, how many are held, and whether no more come.
@@ -125,17 +125,19 @@ fn run_held(
 }
 
 // Reads behind the bytes held; 0 at the end of the input, and where reading fails.
-fn read_more(input: &mut [u8], held: usize) -> usize
+fn read_more(rt: &(impl Input + Print), input: &mut [u8], held: usize) -> usize
     requires { held ≤ length input.old }
     ensures input_unchanged { take held input.new ≡ take held input.old }
     ensures result_in_bounds { held + result ≤ length input.old }
 {
-    let got = libc::read(STDIN_FILENO, &mut input[held..]);
-    io::count(got, &input[held..])
+    match rt.reader().read(&mut input[held..]) {
+        Ok(got) => got,
+        Err(_) => 0,
+    }
 }
 
 // After a turn: more input where the block was used up; over at the session's end and where no more comes.
-fn refill(pause: Pause, stage: Stage, input: &mut [u8]) -> Onward
+fn refill(rt: &(impl Input + Print), pause: Pause, stage: Stage, input: &mut [u8]) -> Onward
     requires { (stage.held ≤ length input.old) × (Rests pause stage.last 0 stage.held) }
     ensures { Refilled pause stage result.stage result.over input.old input.new }
 {
@@ -147,7 +149,7 @@ fn refill(pause: Pause, stage: Stage, input: &mut [u8]) -> Onward
                 return Onward { stage, over: true };
             }
             let held = stage.held;
-            let more = read_more(input, held);
+            let more = read_more(rt, input, held);
             let handle = stage.handle;
             Onward {
                 stage: Stage {
@@ -164,6 +166,7 @@ fn refill(pause: Pause, stage: Stage, input: &mut [u8]) -> Onward
 
 // Turn by turn: what is printed is written out before more is read. It ends where writing fails.
 fn talk(
+    rt: &(impl Input + Print),
     h: Handle,
     nodes: &mut [u64],
     slots: &mut [u64],
@@ -201,12 +204,12 @@ fn talk(
             out,
         );
         let printed = t.printed;
-        if !io::write_all(STDOUT_FILENO, &out[..printed]) {
+        if rt.write_all(&out[..printed]).is_err() {
             return;
         }
         let reached = t.stage;
         let pause = t.pause;
-        let next = refill(pause, reached, input);
+        let next = refill(rt, pause, reached, input);
         if next.over {
             return;
         }
@@ -246,7 +249,7 @@ fn empty_list() -> [u64; Next::LONGEST_LIST]
     [0; Next::LONGEST_LIST]
 }
 
-fn main() {
+fn main(rt: HostRuntime) {
     let mut nodes = empty_nodes();
     let mut slots = empty_slots();
     let mut used = empty_map();
@@ -259,9 +262,10 @@ fn main() {
     let mut places = empty_scratch();
     let mut listed_keys = empty_list();
     let mut listed_payloads = empty_list();
-    let mut input = io::large_buffer();
-    let mut out = io::large_buffer();
+    let mut input = [0u8; 65536];
+    let mut out = [0u8; 65536];
     talk(
+        &rt,
         h,
         &mut nodes,
         &mut slots,
