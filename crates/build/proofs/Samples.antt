@@ -3,8 +3,7 @@
 use mathlib.Core.List.{List, [], ◌∷◌}
 use mathlib.Core.Path.{◌≡◌, refl}
 use Prim.Native.Nat.{ℕ, ◌+◌, ◌*◌, ◌^◌, ◌-◌}
-use lib.ListN.{replicate, length}
-use lib.Seq.{sets}
+use lib.ListN.{replicate}
 use Rattle.marks.specs.Used.{used_at, mark_at, mark_run, first_from, first_unused, free_run, lowest_from, lowest_run}
 use Rattle.model.specs.Choice.{slots_for, count_at, spread_below, spread, model_at, least_from, t_of, empty_model, model_of}
 use Rattle.model.specs.Groups.{keys_to}
@@ -12,8 +11,8 @@ use Rattle.model.specs.Slots.{slot_of}
 use Rattle.pool.specs.Memory.{Mem, mem}
 use Rattle.pool.specs.Writing.{put_node, put_data, put_child, zero_run}
 use Rattle.build.specs.Building.{lowest_record, lowest_slots, place_node, payloads_to, fill_slot, fill_slots, node_on, node_with, build, out}
-use Rattle.build.specs.Sizes.{sizes_of, sizes_under, depth_of, depth_under, total}
-use Rattle.build.specs.declared.Built.TheVariants.{At, NoRoom}
+use Rattle.build.specs.Sizes.{sizes_of, sizes_under, depth_of, depth_under}
+use Rattle.build.specs.declared.Built.TheVariants.{At}
 
 -- 4 records and 20 slots, with junk in the slots
 before : Mem

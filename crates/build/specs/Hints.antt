@@ -3,7 +3,7 @@
 use Rattle.std.specs.Prelude.{true, ◌≡◌, ℕ, ◌+◌, ◌*◌, ◌^◌, ◌≤◌, ◌<◌, length, List}
 use Rattle.marks.specs.Used.{used_at}
 use Rattle.pool.specs.Memory.{Mem, records_in, slots_in, slot_place}
-use Rattle.build.specs.Building.{Out, out, build}
+use Rattle.build.specs.Building.{out, build}
 use Rattle.build.specs.declared.Grown.{Grown}
 use Rattle.build.specs.declared.Hint.{Hint}
 

@@ -1,6 +1,6 @@
 -- How the answers of the calls pass to a C or Rust host: the number, and what is returned besides in fields of their own; a
 -- field that the answer does not return is 0, but a handle is always there. Definitions only.
-use Rattle.std.specs.Prelude.{List, ℕ, eqb, ℤ, pos, get_or}
+use Rattle.std.specs.Prelude.{List, ℕ, eqb, pos, get_or}
 use Rattle.laws.specs.Answers.{Answer, not_held}
 use Rattle.laws.specs.Pick.{pick}
 use Rattle.pool.specs.Memory.{Mem}

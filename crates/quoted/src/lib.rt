@@ -46,7 +46,7 @@ pub fn load(
     used: &mut [u64],
 ) -> Loaded
     ensures { Load capacity keys.now payloads.now nodes.old slots.old used.old
-        (record { r = r; nodes = nodes.new; slots = slots.new; used = used.new }) }
+        (record { r = result; nodes = nodes.new; slots = slots.new; used = used.new }) }
 {
     store::load(capacity, keys, payloads, nodes, slots, used)
 }
@@ -65,13 +65,13 @@ pub fn replace(
     slots: &mut [u64],
     used: &[u64],
 ) -> Changing
-    ensures { Replace h key payload nodes.now slots.old used.now (record { r = r; slots = slots.new }) }
+    ensures { Replace h key payload nodes.now slots.old used.now (record { r = result; slots = slots.new }) }
 {
     store::replace(h, key, payload, nodes, slots, used)
 }
 
 pub fn delete(h: Handle, key: u64, nodes: &[u64], slots: &mut [u64], used: &[u64]) -> Changing
-    ensures { Delete h key nodes.now slots.old used.now (record { r = r; slots = slots.new }) }
+    ensures { Delete h key nodes.now slots.old used.now (record { r = result; slots = slots.new }) }
 {
     delete::delete(h, key, nodes, slots, used)
 }
@@ -87,7 +87,7 @@ pub fn band(
     payloads: &mut [u64],
 ) -> Listed
     ensures { Band h u v nodes.now slots.now used.now keys.old payloads.old
-        (record { r = r; keys = keys.new; payloads = payloads.new }) }
+        (record { r = result; keys = keys.new; payloads = payloads.new }) }
 {
     store::bands::band(h, u, v, nodes, slots, used, keys, payloads)
 }
@@ -105,7 +105,7 @@ pub fn insert(
 ) -> Inserting
     ensures { Insert h key payload nodes.old slots.old used.old
         keys.old payloads.old places.old
-        (record { r = r; nodes = nodes.new; slots = slots.new; used = used.new; keys = keys.new; payloads = payloads.new; places = places.new }) }
+        (record { r = result; nodes = nodes.new; slots = slots.new; used = used.new; keys = keys.new; payloads = payloads.new; places = places.new }) }
 {
     insert::insert(h, key, payload, nodes, slots, used, keys, payloads, places)
 }
@@ -125,7 +125,7 @@ pub fn desk_load(
     used: &mut [u64],
 ) -> LoadedAnswer
     ensures { DeskLoad capacity keys.now payloads.now nodes.old slots.old used.old
-        (record { r = r; nodes = nodes.new; slots = slots.new; used = used.new }) }
+        (record { r = result; nodes = nodes.new; slots = slots.new; used = used.new }) }
 {
     desk::soorqabiye_load(capacity, keys, payloads, nodes, slots, used)
 }
@@ -144,7 +144,7 @@ pub fn desk_replace(
     slots: &mut [u64],
     used: &[u64],
 ) -> ChangedAnswer
-    ensures { DeskReplace h key payload nodes.now slots.old used.now (record { r = r; slots = slots.new }) }
+    ensures { DeskReplace h key payload nodes.now slots.old used.now (record { r = result; slots = slots.new }) }
 {
     desk::soorqabiye_replace(h, key, payload, nodes, slots, used)
 }
@@ -156,7 +156,7 @@ pub fn desk_delete(
     slots: &mut [u64],
     used: &[u64],
 ) -> ChangedAnswer
-    ensures { DeskDelete h key nodes.now slots.old used.now (record { r = r; slots = slots.new }) }
+    ensures { DeskDelete h key nodes.now slots.old used.now (record { r = result; slots = slots.new }) }
 {
     desk::soorqabiye_delete(h, key, nodes, slots, used)
 }
@@ -172,7 +172,7 @@ pub fn desk_band(
     payloads: &mut [u64],
 ) -> ListedAnswer
     ensures { DeskBand h u v nodes.now slots.now used.now keys.old payloads.old
-        (record { r = r; keys = keys.new; payloads = payloads.new }) }
+        (record { r = result; keys = keys.new; payloads = payloads.new }) }
 {
     desk::soorqabiye_band(h, u, v, nodes, slots, used, keys, payloads)
 }
@@ -190,7 +190,7 @@ pub fn desk_insert(
 ) -> InsertedAnswer
     ensures { DeskInsert h key payload nodes.old slots.old used.old
         keys.old payloads.old places.old
-        (record { r = r; nodes = nodes.new; slots = slots.new; used = used.new; keys = keys.new; payloads = payloads.new; places = places.new }) }
+        (record { r = result; nodes = nodes.new; slots = slots.new; used = used.new; keys = keys.new; payloads = payloads.new; places = places.new }) }
 {
     desk::soorqabiye_insert(h, key, payload, nodes, slots, used, keys, payloads, places)
 }

@@ -10,13 +10,12 @@ use borrow.Author.Tests.{lt-ltb, le-ltb, ltb-true, ltb-false}
 use lib.Dec.{ltb}
 use lib.ListN.{length, get_or}
 use Rattle.build.proofs.Heights.{child_lower}
-use Rattle.build.specs.Building.{Out, out, and_then, Builder, with_slots, lowest_record, lowest_slots, place_node, payloads_to, fill_slot, fill_slots, node_on, node_with, build}
+use Rattle.build.specs.Building.{Out, out, and_then, Builder, lowest_record, lowest_slots, place_node, payloads_to, fill_slot, fill_slots, node_on, node_with, build}
 use Rattle.build.specs.Releasing.{release}
 use Rattle.build.specs.declared.Built.{Built}
 use Rattle.build.specs.declared.Built.TheVariants.{At, NoRoom}
 use Rattle.laws.proofs.Tests.{both, le_or_lt}
 use Rattle.laws.specs.Keys.{key_bound, Rising}
-use Rattle.laws.specs.Pick.{pick}
 use Rattle.marks.specs.declared.Run.{Run}
 use Rattle.marks.specs.declared.Run.TheVariants.{At as RunAt, Nowhere}
 use Rattle.model.proofs.Heights.{height_positive, height_small}

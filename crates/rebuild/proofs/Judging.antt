@@ -1,9 +1,9 @@
 -- Building in place: the sizes counted into a list are judged there, and what is then built, or not, is the definition's. Assumes
 -- nothing.
 use mathlib.Core.Bool.{Bool, true, false}
-use mathlib.Core.List.{List, [], ◌++◌}
+use mathlib.Core.List.{List}
 use mathlib.Core.Path.{◌≡◌, refl, sym, ap, subst, ◌∙◌}
-use Prim.Native.Nat.{ℕ, ◌+◌, ◌*◌, ◌^◌, ◌<◌, ◌≤◌}
+use Prim.Native.Nat.{ℕ, ◌+◌, ◌<◌, ◌≤◌}
 use native.Mathlib.Omega.{arith}
 use borrow.Author.Tests.{le-leb, lt-leb}
 use lib.Dec.{leb}
@@ -20,13 +20,11 @@ use Rattle.build.specs.Hints.{Sized, Hinted}
 use Rattle.build.specs.Releasing.{release}
 use Rattle.build.specs.Room.{place_all}
 use Rattle.build.specs.Sizes.{sizes_of, depth_of}
-use Rattle.build.specs.Undoing.{Mapped, Asked, Judged}
+use Rattle.build.specs.Undoing.{Asked, Judged}
 use Rattle.build.specs.declared.Built.{Built}
 use Rattle.build.specs.declared.Built.TheVariants.{At, NoRoom}
 use Rattle.build.specs.declared.sizes.Needs.{Needs}
 use Rattle.laws.proofs.Tests.{both}
-use Rattle.laws.specs.Keys.{Rising}
-use Rattle.laws.specs.Pick.{pick}
 use Rattle.model.proofs.Heights.{height-within}
 use Rattle.model.specs.Height.{height}
 use Rattle.pool.proofs.Growth.{Grows}

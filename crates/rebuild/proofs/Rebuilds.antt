@@ -1,16 +1,15 @@
 -- A rebuild: what was gathered is built in place, and all that was written to scratch is zeros again. Assumes nothing.
 use mathlib.Core.List.{List}
-use mathlib.Core.Path.{◌≡◌, sym, ap, ◌∙◌}
-use Prim.Native.Nat.{ℕ, ◌+◌, ◌-◌, ◌≤◌}
+use mathlib.Core.Path.{◌≡◌, ap, ◌∙◌}
+use Prim.Native.Nat.{ℕ, ◌-◌, ◌≤◌}
 use native.Mathlib.Omega.{arith}
-use lib.ListN.{length, get_or, take, replicate, length-replicate}
+use lib.ListN.{length, take, replicate, length-replicate}
 use lib.Seq.{sets, length-sets}
 use Rattle.build.proofs.NodeSizes.{sizes-few}
 use Rattle.build.proofs.Undoing.{wiped-same}
-use Rattle.build.specs.Building.{Out, out}
+use Rattle.build.specs.Building.{out}
 use Rattle.build.specs.Sizes.{sizes_of}
 use Rattle.build.specs.declared.Built.{Built}
-use Rattle.laws.specs.Keys.{Rising}
 use Rattle.pool.proofs.Sets.{sets_past}
 use Rattle.pool.specs.Memory.{Mem}
 use Rattle.rebuild.specs.Judging.{Judgeable, Sound, Judges, Gathers, Rebuildable}

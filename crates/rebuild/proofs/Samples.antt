@@ -20,7 +20,7 @@ use Rattle.pool.specs.Writing.{put_node, put_data, put_child, zero_record, zero_
 use Rattle.rebuild.specs.Pairs.{pair_of, pair_if, pair_gone}
 use Rattle.rebuild.specs.Rebuilding.{live_items, sound_below, lower_live, upper_live, keys_with, payloads_with, afresh, swapped, in_place, Scratch, scratch, wiped, rebuilt, rebuild_over, rebuild_of}
 use Rattle.rebuild.specs.Zeroing.{nodes_met, nodes_below, node_alone, zeroed}
-use Rattle.walk.specs.Events.{first_in, last_in, count_in, in_slot, in_slots, in_record, too_long, events_at, events_of}
+use Rattle.walk.specs.Events.{first_in, last_in, count_in, in_slot, in_slots, in_record, events_at, events_of}
 use Rattle.walk.specs.Items.{may_enter, may_hold, items}
 use Rattle.walk.specs.Walks.{longest_path}
 

@@ -1,6 +1,6 @@
 -- The two-key node of a conflict (document 01, "Insert": "a two-key node takes the slot"), built over the key that was there and the
 -- new one as every node is. Definitions only.
-use Rattle.std.specs.Prelude.{Bool, true, List, [], ◌∷◌, ◌≡◌, ℕ, ◌<◌, ltb}
+use Rattle.std.specs.Prelude.{Bool, true, [], ◌∷◌, ◌≡◌, ℕ, ◌<◌, ltb}
 use Rattle.build.specs.Building.{Out, out, build}
 use Rattle.build.specs.declared.Built.TheVariants.{At}
 use Rattle.laws.specs.Keys.{key_bound}

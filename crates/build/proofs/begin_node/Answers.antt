@@ -1,13 +1,8 @@
 -- `build::begin_node` meets its contract: the model is the choice over the keys, and the node takes the places found for it.
 -- Assumes nothing.
-use borrow.Author.Rules.{rules}
-use Rattle.pool.specs.Memory.{Mem, mem}
+use Rattle.pool.specs.Memory.{mem}
 use Rattle.build.proofs.Places.{chosen_is_in_range, begins_nowhere, found_within, begins_here}
 use Rattle.build.proofs.begin_node.Goals as goal
-
--- the memory lent
-abbrev memory : tie.Start → Mem
-memory s = mem s.args.nodes.now s.args.slots.now s.args.used.now
 
 pub find_place-p-requires : goal.find_place-p-requires
 find_place-p-requires c =
@@ -16,13 +11,13 @@ find_place-p-requires c =
 
 pub place_node-requires : goal.place_node-requires
 place_node-requires c =
-    let within = found_within (memory s) c.args.keys.now _ c.model_of-c.ensures _ c.find_place-p.ensures _ c.p-1.given.1 in
+    let within = found_within (mem c.args.nodes.now c.args.slots.now c.args.used.now) c.args.keys.now _ c.model_of-c.ensures _ c.find_place-p.ensures _ c.in-Here.is in
     record { sized = c.requires.sized; r_bound = within.0; l_bound = within.1 }
 
 pub returns-in-Here : goal.returns-in-Here
 returns-in-Here c =
-    begins_here (memory s) c.args.keys.now _ c.model_of-c.ensures _ c.find_place-p.ensures _ c.p-1.given.1 _ c.place_node.ensures
+    begins_here (mem c.args.nodes.now c.args.slots.now c.args.used.now) c.args.keys.now _ c.model_of-c.ensures _ c.find_place-p.ensures _ c.in-Here.is _ c.place_node.ensures
 
 pub returns-in_default : goal.returns-in_default
 returns-in_default c =
-    begins_nowhere (memory s) c.args.keys.now _ c.model_of-c.ensures _ c.find_place-p.ensures c.enum_told-1.given.1
+    begins_nowhere (mem c.args.nodes.now c.args.slots.now c.args.used.now) c.args.keys.now _ c.model_of-c.ensures _ c.find_place-p.ensures c.in_default.is

@@ -1,5 +1,4 @@
 -- `build::place_node` meets its contract: its four stores are those of `place_node`. Assumes nothing.
-use borrow.Author.Rules.{rules}
 use Rattle.build.specs.Building.{place_node}
 use Rattle.build.proofs.place_node.Goals as goal
 

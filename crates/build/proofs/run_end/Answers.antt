@@ -1,10 +1,8 @@
 -- `build::run_end` meets its contract. The loop's invariant: every key from a up to b goes to the slot of key a. The measure
 -- is what is left of the keys. Assumes nothing.
 use mathlib.Core.Path.{sym, ◌∙◌}
-use Prim.Native.Nat.{◌-◌, ◌<◌, ◌≤◌}
 use borrow.Author.Rules.{rules}
-use lib.ListN.{length}
-use Rattle.build.proofs.Counting.{Shared, shared-first, shared-more}
+use Rattle.build.proofs.Counting.{shared-first, shared-more}
 use Rattle.build.proofs.run_end.Goals as goal
 
 pub slot_of-s-requires : goal.slot_of-s-requires
@@ -21,7 +19,7 @@ slot_of-requires c =
 
 pub loop-b-preserved : goal.loop-b-preserved
 loop-b-preserved c =
-    let x = c.before.before.before.before.args in (
+    let x = c.args in (
       search rules,
       search rules,
       shared-more
@@ -30,5 +28,5 @@ loop-b-preserved c =
           x.a
           c.loop-b.b
           c.loop-b.invariant.2
-          (sym c.slot_of.ensures.0 ∙ c.if-slot_of-s.false ∙ c.before.slot_of.ensures.0),
+          (sym c.slot_of.ensures.0 ∙ c.if-slot_of-s.false ∙ c.slot_of-s.ensures.0),
     )

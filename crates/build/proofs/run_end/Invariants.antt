@@ -1,10 +1,8 @@
 -- `build::run_end` meets its contract. The loop's invariant: every key from a up to b goes to the slot of key a. The measure
 -- is what is left of the keys. Assumes nothing.
-use mathlib.Core.Path.{sym, ◌∙◌}
 use Prim.Native.Nat.{◌-◌, ◌<◌, ◌≤◌}
-use borrow.Author.Rules.{rules}
 use lib.ListN.{length}
-use Rattle.build.proofs.Counting.{Shared, shared-first, shared-more}
+use Rattle.build.proofs.Counting.{Shared}
 use Rattle.build.proofs.run_end.Given as goal
 
 abbrev pub invariant-loop-b : goal.invariant-loop-b

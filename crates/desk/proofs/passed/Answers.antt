@@ -3,7 +3,6 @@ use mathlib.Core.Path.{◌≡◌}
 use Rattle.store.specs.Calls.{changed}
 use Rattle.store.specs.declared.Changed.TheVariants.{Done, OutOfRange, WrongSizes, Damage}
 use Rattle.desk.specs.Passing.{pass_changing}
-use borrow.Author.Rules.{rules}
 use Rattle.desk.proofs.passed.Goals as goal
 
 pub returns-in-Done : goal.returns-in-Done
@@ -14,7 +13,7 @@ returns-in-Done c =
 
 pub returns-in-NotHeld : goal.returns-in-NotHeld
 unfolding pass_changing changed
-returns-in-NotHeld c = rw c.a-1.given.1
+returns-in-NotHeld c = rw c.in-NotHeld.is
 
 pub returns-in-OutOfRange : goal.returns-in-OutOfRange
 unfolding pass_changing changed

@@ -3,12 +3,11 @@ use mathlib.Core.Path.{◌≡◌}
 use Rattle.insert.specs.Inserting.{inserted}
 use Rattle.insert.specs.declared.Inserted.TheVariants.{WrongSizes, OutOfRange, Held, Full, NoRoom, Damage}
 use Rattle.desk.specs.Passing.{pass_inserting}
-use borrow.Author.Rules.{rules}
 use Rattle.desk.proofs.passed_insert.Goals as goal
 
 pub returns-in-Done : goal.returns-in-Done
 unfolding pass_inserting inserted
-returns-in-Done c = rw c.a-1.given.1
+returns-in-Done c = rw c.in-Done.is
 
 pub returns-in-WrongSizes : goal.returns-in-WrongSizes
 unfolding pass_inserting inserted

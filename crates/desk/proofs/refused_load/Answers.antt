@@ -1,5 +1,4 @@
 -- `desk::refused_load` meets its contract. Assumes nothing.
-use borrow.Author.Rules.{rules}
 use Rattle.desk.proofs.refused_load.Goals as goal
 
 pub returns : goal.returns

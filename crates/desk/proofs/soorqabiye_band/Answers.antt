@@ -6,8 +6,6 @@ use Rattle.store.specs.Bands.{Band, band, listed}
 use Rattle.store.specs.declared.Listed.{Listed}
 use Rattle.store.specs.declared.Listed.TheVariants.{WrongSizes, OutOfRange, Reversed, Damage}
 use Rattle.desk.specs.Passing.{pass_band}
-use borrow.Author.Rules.{rules}
-use Rattle.desk.proofs.soorqabiye_band.Lts as lts
 use Rattle.desk.proofs.soorqabiye_band.Goals as goal
 
 -- the answer of the case that came, over the output left
@@ -17,7 +15,7 @@ passed l ks ps x e k f = ap pass_band (ap (λ (y : Listed). band (listed y) ks p
 pub returns-in-Done : goal.returns-in-Done
 unfolding pass_band listed
 returns-in-Done c =
-    passed _ _ _ _ c.band.ensures _ c.count-1.given.1
+    passed _ _ _ _ c.band.ensures _ c.in-Done.is
 
 pub returns-in-WrongSizes : goal.returns-in-WrongSizes
 unfolding pass_band listed

@@ -1,7 +1,6 @@
 -- `desk::soorqabiye_insert` meets its contract: the call's answer, passed on. Assumes nothing.
 use mathlib.Core.Path.{ap}
 use Rattle.desk.specs.Passing.{pass_insert, pass_inserting}
-use borrow.Author.Rules.{rules}
 use Rattle.desk.proofs.soorqabiye_insert.Goals as goal
 
 pub returns : goal.returns

@@ -6,7 +6,6 @@ use Rattle.store.specs.Loading.{loaded}
 use Rattle.store.specs.declared.Loaded.{Loaded}
 use Rattle.store.specs.declared.Loaded.TheVariants.{WrongSizes, Full, OutOfRange, NoRoom}
 use Rattle.desk.specs.Passing.{pass_load}
-use borrow.Author.Rules.{rules}
 use Rattle.desk.proofs.soorqabiye_load.Goals as goal
 
 -- the answer of the case that came, over the memory left
@@ -16,7 +15,7 @@ passed l m x e k f = ap pass_load (ap (λ (y : Loaded). loaded y m) (sym f) ∙ 
 pub returns-in-Done : goal.returns-in-Done
 unfolding pass_load loaded
 returns-in-Done c =
-    passed _ _ _ c.load.ensures _ c.h-1.given.1
+    passed _ _ _ c.load.ensures _ c.in-Done.is
 
 pub returns-in-WrongSizes : goal.returns-in-WrongSizes
 unfolding pass_load loaded
@@ -39,7 +38,7 @@ returns-in-OutOfRange c =
 pub returns-in-NotRising : goal.returns-in-NotRising
 unfolding pass_load loaded
 returns-in-NotRising c =
-    rw c.refused_load-in-NotRising.ensures (passed _ _ _ c.load.ensures _ c.place-1.given.1)
+    rw c.refused_load-in-NotRising.ensures (passed _ _ _ c.load.ensures _ c.in-NotRising.is)
 
 pub returns-in-NoRoom : goal.returns-in-NoRoom
 unfolding pass_load loaded

@@ -4,18 +4,17 @@ use Rattle.store.specs.Calls.{looked}
 use Rattle.store.specs.declared.Looked.{Looked}
 use Rattle.store.specs.declared.Looked.TheVariants.{OutOfRange, WrongSizes, Damage}
 use Rattle.desk.specs.Passing.{pass_looked}
-use borrow.Author.Rules.{rules}
 use Rattle.desk.proofs.soorqabiye_lookup.Goals as goal
 
 pub returns-in-Found : goal.returns-in-Found
 unfolding pass_looked looked
 returns-in-Found c =
-    ap (λ (p : Looked). pass_looked (looked p)) (sym c.payload-1.given.1) ∙ ap pass_looked c.lookup.ensures
+    ap (λ (p : Looked). pass_looked (looked p)) (sym c.in-Found.is) ∙ ap pass_looked c.lookup.ensures
 
 pub returns-in-NotHeld : goal.returns-in-NotHeld
 unfolding pass_looked looked
 returns-in-NotHeld c =
-    ap (λ (p : Looked). pass_looked (looked p)) (sym c.visits-1.given.1) ∙ ap pass_looked c.lookup.ensures
+    ap (λ (p : Looked). pass_looked (looked p)) (sym c.in-NotHeld.is) ∙ ap pass_looked c.lookup.ensures
 
 pub returns-in-OutOfRange : goal.returns-in-OutOfRange
 unfolding pass_looked looked

@@ -1,7 +1,6 @@
 -- `desk::soorqabiye_replace` meets its contract: the call's answer, passed on. Assumes nothing.
 use mathlib.Core.Path.{ap}
 use Rattle.desk.specs.Passing.{pass_change, pass_changing}
-use borrow.Author.Rules.{rules}
 use Rattle.desk.proofs.soorqabiye_replace.Goals as goal
 
 pub returns : goal.returns

@@ -20,7 +20,7 @@ returns-in_default c =
 pub returns : goal.returns
 unfolding pass_sounding unpacked
 returns c =
-    let s = c.s-1.given.0.0 in
+    let s = c.in-Of.s in
     let f : SFits w64 s.depth = search rules in
     ap (λ (d : ℤ). record { number = 0; depth = d; sounding = s.number }) (to_z-of_z w64 s.depth f)
-    ∙ ap (λ (p : Unpacked). pass_sounding (unpacked p)) (sym c.s-1.given.1) ∙ ap pass_sounding c.unpack.ensures
+    ∙ ap (λ (p : Unpacked). pass_sounding (unpacked p)) (sym c.in-Of.is) ∙ ap pass_sounding c.unpack.ensures

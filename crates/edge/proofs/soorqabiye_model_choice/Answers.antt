@@ -4,18 +4,17 @@ use Rattle.model.specs.Choice.{chosen, chosen_values}
 use Rattle.model.specs.declared.Chosen.{Chosen}
 use Rattle.model.specs.declared.Chosen.TheVariants.{WrongLength}
 use Rattle.edge.specs.Passing.{pass_model}
-use borrow.Author.Rules.{rules}
 use Rattle.edge.proofs.soorqabiye_model_choice.Goals as goal
 
 pub returns-in-Is : goal.returns-in-Is
 unfolding pass_model chosen chosen_values
 returns-in-Is c =
-    ap (λ (p : Chosen). pass_model (chosen p)) (sym c.c-1.given.1) ∙ ap pass_model c.model_choice.ensures
+    ap (λ (p : Chosen). pass_model (chosen p)) (sym c.in-Is.is) ∙ ap pass_model c.model_choice.ensures
 
 pub returns-in-NotRising : goal.returns-in-NotRising
 unfolding pass_model chosen
 returns-in-NotRising c =
-    ap (λ (p : Chosen). pass_model (chosen p)) (sym c.place-1.given.1) ∙ ap pass_model c.model_choice.ensures
+    ap (λ (p : Chosen). pass_model (chosen p)) (sym c.in-NotRising.is) ∙ ap pass_model c.model_choice.ensures
 
 pub returns-in-WrongLength : goal.returns-in-WrongLength
 unfolding pass_model chosen

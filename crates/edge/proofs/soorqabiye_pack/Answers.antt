@@ -7,7 +7,6 @@ use mathlib.Core.Path.{◌≡◌, sym, ap, ◌∙◌}
 use Rattle.sounding.specs.declared.Packed.{Packed}
 use Rattle.sounding.specs.declared.Packed.TheVariants.{OutOfRange}
 use Rattle.edge.specs.Passing.{pass_key}
-use borrow.Author.Rules.{rules}
 use Rattle.edge.proofs.soorqabiye_pack.Goals as goal
 
 pub returns-in_default : goal.returns-in_default
@@ -19,4 +18,4 @@ returns-in_default c =
 pub returns : goal.returns
 unfolding pass_key packed
 returns c =
-    ap (λ (p : Packed). pass_key (packed p)) (sym c.key-1.given.1) ∙ ap pass_key c.pack.ensures ∙ ap (λ (d : ℤ). pass_key (pack_of d c.args.number)) (to_z-of_z w64 c.args.depth c.ranges.depth)
+    ap (λ (p : Packed). pass_key (packed p)) (sym c.in-Key.is) ∙ ap pass_key c.pack.ensures ∙ ap (λ (d : ℤ). pass_key (pack_of d c.args.number)) (to_z-of_z w64 c.args.depth c.ranges.depth)

@@ -6,7 +6,6 @@ use Rattle.model.specs.declared.Model.{Model}
 use Rattle.model.specs.declared.Slotted.{Slotted}
 use Rattle.model.specs.declared.Slotted.TheVariants.{At, KeyOutOfRange, ModelOutOfRange}
 use Rattle.edge.specs.Passing.{pass_slot}
-use borrow.Author.Rules.{rules}
 use Rattle.edge.proofs.soorqabiye_slot_choice.Goals as goal
 
 -- the model that the leaf was handed is the one of the call
@@ -16,7 +15,7 @@ passed k m n e r h q f = ap pass_slot (ap slotted (sym f) ∙ h ∙ ap (slot_cho
 pub returns-in-At : goal.returns-in-At
 unfolding pass_slot slotted
 returns-in-At c =
-    passed c.args.key _ _ c.new.ensures _ c.slot_choice.ensures (At _) c.slot-1.given.1
+    passed c.args.key _ _ c.new.ensures _ c.slot_choice.ensures (At _) c.in-At.is
 
 pub returns-in-KeyOutOfRange : goal.returns-in-KeyOutOfRange
 unfolding pass_slot slotted

@@ -1,10 +1,7 @@
 -- `rebuild::build_in_place` meets its contract: the counted sizes are judged, and the build and the release are the definition's
 -- (proofs/Judging). Assumes nothing.
-use mathlib.Core.Path.{◌∙◌}
-use borrow.Author.Rules.{rules}
 use Rattle.rebuild.proofs.Judging.{asked, depth_small, judges_no_room, judges_too_deep, judges_built, left-sized, built-sized, hinted_first}
 use native.Mathlib.Omega.{arith}
-use borrow.Author.Tests.{not-true, not-false}
 use Rattle.rebuild.proofs.build_in_place.Goals as goal
 
 pub has_room-requires : goal.has_room-requires
@@ -32,7 +29,3 @@ release-requires c =
 pub returns : goal.returns
 returns c =
     judges_built _ _ _ _ _ _ c.requires.judgeable _ _ c.sizes-needs.ensures _ _ _ c.has_room.ensures c.requires.sound c.if-not-has_room.false (omega (arith, c.if-above-needs-gt-LONGEST.false)) _ _ _ c.build_node-g.ensures.is c.release.ensures
-
--- MISS
--- same-length-8 : tie.Need-same-length-8
--- same-length-8 c = c.before.before.before.before.before.before.before.before.before.before.before.before.before.before.before.before.before.before.before.before.before.before.before.before.before.before.before.has_room.auto.1.1.1.0 ∙ c.before.before.before.before.before.before.before.before.before.before.before.before.before.before.before.before.before.before.before.before.before.before.before.before.before.before.before.before.before.before.before.before.sizes.auto.1.0

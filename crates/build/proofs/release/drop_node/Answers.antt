@@ -1,5 +1,4 @@
 -- `build::release::drop_node` meets its contract: its four stores are those of `drop_node`. Assumes nothing.
-use borrow.Author.Rules.{rules}
 use Rattle.build.specs.Releasing.{drop_node}
 use Rattle.build.proofs.release.drop_node.Goals as goal
 

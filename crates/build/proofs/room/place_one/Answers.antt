@@ -1,8 +1,7 @@
 -- `room::place_one` meets its contract: the record is the lowest unused and the run the lowest that fits, and once both are found
 -- they are marked. What the searches require follows from where they may start. Assumes nothing.
-use mathlib.Core.Path.{refl, sym, ◌∙◌}
+use mathlib.Core.Path.{refl, sym}
 use native.Mathlib.Omega.{arith}
-use borrow.Author.Rules.{rules}
 use Rattle.marks.proofs.Lowest.{first_unused_at, lowest_run_finds}
 use Rattle.marks.proofs.Marks.{mark-length}
 use Rattle.build.specs.Undoing.{marked_by}
@@ -21,20 +20,18 @@ lowest_run-requires c =
 pub returns-in_default : goal.returns-in_default
 unfolding marked_by
 returns-in_default c =
-    (spot_no_run _ _ _ _ _ c.before.before.before.before.before.first-unused.ensures c.before.before.before.before.if1.false _ c.before.before.first-unused2.ensures (sym c.enum_told-1.given.1 ∙ c.lowest_run.ensures), refl)
+    (spot_no_run _ _ _ _ _ c.first_unused-record.ensures c.if-records-record.false _ c.first_unused-first.ensures c.in_default.ensures, refl)
 
 pub overflow_add-records : goal.overflow_add-records
 overflow_add-records c =
-    let s = c.before.before.before.before.before.before.before.before in
-    omega (arith, s.requires.0, (lowest_run_finds s.args.used.now _ _ _ _ (sym c.lowest_run.ensures ∙ c.start-1.given.1)).0)
+    omega (arith, c.requires.mapped, (lowest_run_finds c.args.used.now _ _ _ _ (sym c.in-At.ensures)).0)
 
 pub mark_run-requires : goal.mark_run-requires
 mark_run-requires c =
-    let s = c.before.before.before.before.before.before.before.before in
-    let run = lowest_run_finds s.args.used.now _ _ _ _ (sym c.lowest_run.ensures ∙ c.start-1.given.1) in
-    (rw (c.mark.ensures, mark-length) (omega (arith, s.requires.0, run.0)), omega (arith, s.requires.0, run.0))
+    let run = lowest_run_finds c.args.used.now _ _ _ _ (sym c.in-At.ensures) in
+    (rw (c.mark.ensures, mark-length) (omega (arith, c.requires.mapped, run.0)), omega (arith, c.requires.mapped, run.0))
 
 pub returns : goal.returns
 unfolding marked_by
 returns c =
-    (spot_here _ _ _ _ _ c.before.before.before.before.before.first-unused.ensures c.before.before.before.before.if1.false _ c.before.before.first-unused2.ensures _ (sym c.start-1.given.1 ∙ c.lowest_run.ensures), rw (c.mark_run.ensures, c.mark.ensures))
+    (spot_here _ _ _ _ _ c.first_unused-record.ensures c.if-records-record.false _ c.first_unused-first.ensures _ c.in-At.ensures, rw (c.mark_run.ensures, c.mark.ensures))

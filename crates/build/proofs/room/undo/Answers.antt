@@ -1,13 +1,10 @@
 -- `room::undo` meets its contract. The loop's invariant: undoing the words that are left is undoing them all. Every word's places
 -- lie in the map, since no store changes its length. Assumes nothing.
-use mathlib.Core.Path.{◌≡◌, refl, sym, ◌∙◌}
-use Prim.Native.Nat.{◌≤◌, ◌-◌}
+use mathlib.Core.Path.{refl, sym, ◌∙◌}
+use Prim.Native.Nat.{◌-◌}
 use native.Mathlib.Omega.{arith}
-use borrow.Author.Rules.{rules}
-use lib.ListN.{length}
 use Rattle.marks.proofs.Marks.{clear-length}
 use Rattle.marks.proofs.Runs.{clear_run-length}
-use Rattle.build.specs.Undoing.{undone_by}
 use Rattle.build.proofs.Undoing.{undo-step, undo-end}
 use Rattle.build.proofs.room.undo.Goals as goal
 
@@ -17,12 +14,12 @@ loop-i-init c = (omega arith, refl, refl)
 pub overflow_add-records : goal.overflow_add-records
 overflow_add-records c =
     let k = c.loop-i in
-    omega (arith, c.requires.run (k.i - 1) (omega arith), c.shared_slice_known-in-loop-i-1.given (k.i - 1))
+    omega (arith, c.requires.run (k.i - 1) (omega arith), c.type_inv.list (k.i - 1))
 
 pub clear_run-requires : goal.clear_run-requires
 clear_run-requires c =
     let k = c.loop-i in
-    (rw k.invariant.1 (c.requires.run (k.i - 1) (omega arith)), omega (arith, c.requires.few-records, c.shared_slice_known-in-loop-i-1.given (k.i - 1)))
+    (rw k.invariant.1 (c.requires.run (k.i - 1) (omega arith)), omega (arith, c.requires.few-records, c.type_inv.list (k.i - 1)))
 
 pub clear-requires : goal.clear-requires
 clear-requires c =

@@ -1,14 +1,9 @@
 -- `room::undo` meets its contract. The loop's invariant: undoing the words that are left is undoing them all. Every word's places
 -- lie in the map, since no store changes its length. Assumes nothing.
-use mathlib.Core.Path.{◌≡◌, refl, sym, ◌∙◌}
-use Prim.Native.Nat.{◌≤◌, ◌-◌}
-use native.Mathlib.Omega.{arith}
-use borrow.Author.Rules.{rules}
+use mathlib.Core.Path.{◌≡◌}
+use Prim.Native.Nat.{◌≤◌}
 use lib.ListN.{length}
-use Rattle.marks.proofs.Marks.{clear-length}
-use Rattle.marks.proofs.Runs.{clear_run-length}
 use Rattle.build.specs.Undoing.{undone_by}
-use Rattle.build.proofs.Undoing.{undo-step, undo-end}
 use Rattle.build.proofs.room.undo.Given as goal
 
 abbrev pub invariant-loop-i : goal.invariant-loop-i

@@ -3,9 +3,7 @@
 use mathlib.Core.Path.{◌≡◌, refl, sym, ◌∙◌}
 use Prim.Native.Nat.{◌-◌}
 use native.Mathlib.Omega.{arith}
-use borrow.Author.Rules.{rules}
-use lib.ListN.{length, replicate, length-set}
-use lib.Seq.{sets}
+use lib.ListN.{length-set}
 use Rattle.pool.proofs.Sets.{zeros-step, zeros-end}
 use Rattle.build.proofs.room.wipe.Goals as goal
 

@@ -1,12 +1,9 @@
 -- `room::wipe` meets its contract. The loop's invariant: what is left to zero from here on is the whole (the pools' Sets).
 -- Assumes nothing.
-use mathlib.Core.Path.{◌≡◌, refl, sym, ◌∙◌}
+use mathlib.Core.Path.{◌≡◌}
 use Prim.Native.Nat.{◌-◌}
-use native.Mathlib.Omega.{arith}
-use borrow.Author.Rules.{rules}
-use lib.ListN.{length, replicate, length-set}
+use lib.ListN.{length, replicate}
 use lib.Seq.{sets}
-use Rattle.pool.proofs.Sets.{zeros-step, zeros-end}
 use Rattle.build.proofs.room.wipe.Given as goal
 
 abbrev pub invariant-loop-i : goal.invariant-loop-i

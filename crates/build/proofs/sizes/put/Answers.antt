@@ -1,7 +1,6 @@
 -- `build::sizes::put` meets its contract: a store at a place of the list is the store, and one past its end, which the code leaves
 -- out, changes nothing. Assumes nothing.
 use mathlib.Core.Path.{sym}
-use borrow.Author.Rules.{rules}
 use lib.Seq.{set_out}
 use Rattle.build.proofs.sizes.put.Goals as goal
 

@@ -1,8 +1,5 @@
 -- `pairs::build_pair` meets its contract: no node, or the two keys in their order. Assumes nothing.
-use native.Mathlib.Omega.{arith}
-use borrow.Author.Tests.{not-true, not-false}
 use Rattle.rebuild.proofs.Conflicts.{pair-none, pair-first, pair-second, parted}
-use borrow.Author.Rules.{rules}
 use Rattle.rebuild.proofs.pairs.build_pair.Goals as goal
 
 pub returns-then-not-conflict : goal.returns-then-not-conflict

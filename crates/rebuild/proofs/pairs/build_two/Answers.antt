@@ -3,7 +3,6 @@ use Rattle.rebuild.proofs.Judging.{pooled_sized, hinted_first}
 use Rattle.rebuild.proofs.Conflicts.{two_rise}
 use native.Mathlib.Omega.{arith}
 use mathlib.Core.Path.{refl}
-use borrow.Author.Rules.{rules}
 use Rattle.rebuild.proofs.pairs.build_two.Goals as goal
 
 pub build_node-g-requires : goal.build_node-g-requires

@@ -1,7 +1,5 @@
 -- `pairs::drop_pair` meets its contract. Assumes nothing.
 use Rattle.rebuild.proofs.Conflicts.{pair_stays, pair_goes}
-use borrow.Author.Tests.{not-true, not-false}
-use borrow.Author.Rules.{rules}
 use Rattle.rebuild.proofs.pairs.drop_pair.Goals as goal
 
 pub returns-then-not-conflict : goal.returns-then-not-conflict

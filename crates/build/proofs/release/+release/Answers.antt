@@ -1,0 +1,49 @@
+-- `build::release::release` meets its contract: each turn of its loop and each exit is a law of Releasing. Assumes nothing.
+use mathlib.Core.Path.{sym, ◌∙◌}
+use Prim.Native.Nat.{◌-◌}
+use native.Mathlib.Omega.{arith}
+use Rattle.pool.specs.Memory.{mem}
+use Rattle.pool.proofs.Nodes.{good-node}
+use Rattle.build.proofs.Releasing.{left-start, left-sized, left-child, left_other, ends_no_fuel, ends-broken, ends_dropped}
+use Rattle.build.proofs.release.+release.Goals as goal
+
+pub returns-then-fuel-lt1 : goal.returns-then-fuel-lt1
+returns-then-fuel-lt1 t c =
+    ends_no_fuel c.args.fuel (mem c.args.nodes.now c.args.slots.now c.args.used.now) c.args.r c.if-fuel-lt1.true
+
+pub returns-in_default : goal.returns-in_default
+returns-in_default t c =
+    ends-broken c.args.fuel (mem c.args.nodes.now c.args.slots.now c.args.used.now) c.args.r c.if-fuel-lt1.false _ c.node_at.ensures _ c.in_default.is
+
+pub loop-j-init : goal.loop-j-init
+loop-j-init t c =
+    left-start (c.args.fuel - 1) _ (mem c.args.nodes.now c.args.slots.now c.args.used.now)
+
+pub slot_at-s-requires : goal.slot_at-s-requires
+slot_at-s-requires t c =
+    let g = good-node (mem c.args.nodes.now c.args.slots.now c.args.used.now) c.args.r _ (sym c.node_at.ensures ∙ c.in-Good.is) in
+    record { j_in_bounds = omega (arith, g.fits, c.loop-j.invariant.slots, c.loop-j-test.true); in_range = g.range }
+
+pub release-requires : goal.release-requires
+release-requires t c =
+    (omega (arith, c.decreases, c.if-fuel-lt1.false), left-sized c.loop-j.invariant c.requires)
+
+pub loop-j-preserved-in-Child : goal.loop-j-preserved-in-Child
+loop-j-preserved-in-Child t c =
+    let g = c.release in
+    left-child c.loop-j.invariant (omega (arith, c.loop-j-test.true)) _ c.slot_at-s.ensures _ (mem g.new.nodes g.new.slots g.new.used) c.in-Child.is g.ensures
+
+pub loop-j-preserved : goal.loop-j-preserved
+loop-j-preserved t c =
+    left_other c.loop-j.invariant (omega (arith, c.loop-j-test.true)) _ c.slot_at-s.ensures c.in_default-s.not-Child
+
+pub drop_node-requires : goal.drop_node-requires
+drop_node-requires t c =
+    let g = good-node (mem c.args.nodes.now c.args.slots.now c.args.used.now) c.args.r _ (sym c.node_at.ensures ∙ c.in-Good.is) in
+    let k = c.loop-j.invariant in
+    record { sized = left-sized k c.requires; r_bound = omega (arith, g.inside, k.nodes); l_bound = omega (arith, g.fits, k.slots) }
+
+pub returns : goal.returns
+returns t c =
+    let d = c.drop_node in
+    ends_dropped c.args.fuel (mem c.args.nodes.now c.args.slots.now c.args.used.now) c.args.r c.if-fuel-lt1.false _ c.node_at.ensures _ _ _ (mem d.new.nodes d.new.slots d.new.used) c.in-Good.is c.loop-j.invariant (omega (arith, c.loop-j-test.false)) d.ensures
