@@ -1,4 +1,4 @@
-# Tests, run example and benchmark over the proved crates. Everything built goes to target/.
+# Tests, run example and benchmark over the proved crates. Everything built goes to target/, what rt makes to crates/*/out.
 #
 #   make test        the whole gate: proofs, C tests, second program, whole sessions, wrong edits (.ci/run)
 #   make run         document 01's example session, written as text, through the session program; held to what document 01 prints
@@ -18,9 +18,9 @@
 #   make worst       look for key lists on which model choice is slow, for a minute
 #   make bench       the time each function of the C edge takes, load and lookup beside a BTreeMap, then bench-store
 #   make bench-store the time each call of the desk library takes, beside a BTreeMap and a sorted array, and docs/speed.svg from what it measured
-#   make edits       the wrong edits of all crates, or of CRATES=..; every one has to be refused, each over the modules proved before
+#   make edits       the wrong edits of all crates, or of CRATES=..; every one has to be refused (rt ci tries them too)
 #   make statements  the tables of edits in docs/STATEMENTS.md, from the edits' own lines
-#   make clean       remove target/
+#   make clean       remove target/ and each crate's out/
 
 # The kit's code is for x86-64. On another processor the tests are compiled for x86-64 too, and run under an emulator.
 ifeq ($(shell uname -m),x86_64)
@@ -48,7 +48,7 @@ LINK_DESK = -L native=$(EDGE_DIR) -l static=desk
 DESK_CALLS = unpack load lookup replace delete band insert
 DESK_CFG = $(foreach call,$(DESK_CALLS),--cfg 'desk="$(call)"')
 DESK_DEFINES = $(foreach call,$(DESK_CALLS),-DDESK_$(call))
-PROVED = crates.txt $(shell find crates -name '*.rt' -o -name '*.antt')
+PROVED = crates.txt $(shell find crates -name out -prune -o \( -name '*.rt' -o -name '*.antt' \) -print)
 
 need = @command -v $(1) >/dev/null || { echo "$(1) is missing: $(2)" >&2; exit 1; }
 need_cc = $(call need,$(CC),install a C11 compiler or name yours with 'make CC=..')
@@ -177,25 +177,28 @@ bench-store: $(DESK)
 	@$(RUN) target/bench/store --series target/bench/series.txt
 	@tools/speed < target/bench/series.txt > target/bench/speed.svg && mv target/bench/speed.svg docs/speed.svg
 
-# rt builds a program only when it proves it
+# rt builds a program or a library only where it proves it, in the crate's own out/; the C libraries keep their names without the _c
 $(SESSION): $(PROVED)
 	$(need_rt)
-	@test -x $@ || rm -f target/stamp/session
-	@rt check session >&2
-	@touch $@
+	@mkdir -p target/bin
+	@cd crates/session && rt run </dev/null >&2
+	@cp crates/session/out/session $@
 
 $(EDGE): $(PROVED)
 	$(need_rt)
-	@rt staticlib edge >&2
+	@mkdir -p $(EDGE_DIR)
+	@cd crates/edge_c && rt lib >&2
+	@cp crates/edge_c/out/libedge_c.a $@
 
 $(DESK): $(PROVED)
 	$(need_rt)
-	@rt staticlib desk >&2
+	@mkdir -p $(EDGE_DIR)
+	@cd crates/desk_c && rt lib >&2
+	@cp crates/desk_c/out/libdesk_c.a $@
 
 edits:
 	$(need_rt)
 	$(need_python)
-	@rt check $(CRATES) >&2
 	@tools/edits $(CRATES)
 
 statements:
@@ -203,4 +206,4 @@ statements:
 	@tools/edits --tables
 
 clean:
-	rm -rf target
+	rm -rf target crates/*/out

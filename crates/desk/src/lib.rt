@@ -67,8 +67,7 @@ pub struct InsertedAnswer {
     pub handle: Handle,
 }
 
-#[unsafe(no_mangle)]
-pub extern "C" fn soorqabiye_unpack(key: u64) -> SoundingAnswer
+pub fn soorqabiye_unpack(key: u64) -> SoundingAnswer
     ensures { result ≡ pass_sounding (unpack_of key) }
 {
     let Unpacked::Of(s) = sounding::unpack(key) else {
@@ -96,8 +95,7 @@ fn refused_load(number: u64, place: usize) -> LoadedAnswer
     }
 }
 
-#[unsafe(no_mangle)]
-pub extern "C" fn soorqabiye_load(
+pub fn soorqabiye_load(
     capacity: usize,
     keys: &[u64],
     payloads: &[u64],
@@ -122,8 +120,7 @@ pub extern "C" fn soorqabiye_load(
     }
 }
 
-#[unsafe(no_mangle)]
-pub extern "C" fn soorqabiye_lookup(
+pub fn soorqabiye_lookup(
     h: Handle,
     key: u64,
     nodes: &[u64],
@@ -194,8 +191,7 @@ fn passed(c: Changing) -> ChangedAnswer
     }
 }
 
-#[unsafe(no_mangle)]
-pub extern "C" fn soorqabiye_replace(
+pub fn soorqabiye_replace(
     h: Handle,
     key: u64,
     payload: u64,
@@ -209,8 +205,7 @@ pub extern "C" fn soorqabiye_replace(
     passed(store::replace(h, key, payload, nodes, slots, used))
 }
 
-#[unsafe(no_mangle)]
-pub extern "C" fn soorqabiye_delete(
+pub fn soorqabiye_delete(
     h: Handle,
     key: u64,
     nodes: &[u64],
@@ -233,8 +228,7 @@ fn refused_list(number: u64) -> ListedAnswer
     }
 }
 
-#[unsafe(no_mangle)]
-pub extern "C" fn soorqabiye_band(
+pub fn soorqabiye_band(
     h: Handle,
     u: u64,
     v: u64,
@@ -293,8 +287,7 @@ fn passed_insert(i: Inserting) -> InsertedAnswer
     }
 }
 
-#[unsafe(no_mangle)]
-pub extern "C" fn soorqabiye_insert(
+pub fn soorqabiye_insert(
     h: Handle,
     key: u64,
     payload: u64,

@@ -36,8 +36,7 @@ pub struct ModelAnswer {
     pub w: u64,
 }
 
-#[unsafe(no_mangle)]
-pub extern "C" fn soorqabiye_pack(depth: i64, number: u64) -> KeyAnswer
+pub fn soorqabiye_pack(depth: i64, number: u64) -> KeyAnswer
     ensures { result ≡ pass_key (pack_of depth number) }
 {
     let Packed::Key(key) = sounding::pack(depth, number) else {
@@ -46,8 +45,7 @@ pub extern "C" fn soorqabiye_pack(depth: i64, number: u64) -> KeyAnswer
     KeyAnswer { number: 0, key }
 }
 
-#[unsafe(no_mangle)]
-pub extern "C" fn soorqabiye_slot_choice(key: u64, lo: u64, w: u64, l: u64) -> SlotAnswer
+pub fn soorqabiye_slot_choice(key: u64, lo: u64, w: u64, l: u64) -> SlotAnswer
     ensures { result ≡ pass_slot (slot_choice key (record { lo = lo; w = w; l = l })) }
 {
     match model::slot_choice(key, Model::new(lo, w, l)) {
@@ -57,8 +55,7 @@ pub extern "C" fn soorqabiye_slot_choice(key: u64, lo: u64, w: u64, l: u64) -> S
     }
 }
 
-#[unsafe(no_mangle)]
-pub extern "C" fn soorqabiye_model_choice(keys: &[u8]) -> ModelAnswer
+pub fn soorqabiye_model_choice(keys: &[u8]) -> ModelAnswer
     ensures { result ≡ pass_model (model_choice keys.now) }
 {
     match model::bytes::model_choice(keys) {
