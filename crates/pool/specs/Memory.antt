@@ -1,6 +1,6 @@
 -- The lent pools as lists of words (docs/MEMORY.md): 8 words a node record, 2 words a slot, a bit a place in the map of used
 -- places, records first. Definitions only.
-use Rattle.std.specs.Prelude.{List, ℕ, ◌+◌, ◌*◌, ◌/◌, ◌^◌, length}
+use Rattle.std.specs.Prelude.{List, ℕ, ◌+◌, ◌*◌, ◌/◌, length}
 use Rattle.laws.specs.Keys.{key_bound}
 
 pub record Mem : Type 0 where

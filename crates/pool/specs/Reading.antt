@@ -1,6 +1,6 @@
 -- Reading a record and a slot under the damage rules (document 01, "Numbers of the answers", last paragraph), in that order: the
 -- node or the slot, or the first rule that it breaks. Every memory can be read. Definitions only.
-use Rattle.std.specs.Prelude.{List, ℕ, ◌+◌, ◌*◌, ◌/◌, ◌%◌, ltb, leb, eqb, length, get_or}
+use Rattle.std.specs.Prelude.{List, ℕ, ◌+◌, ◌/◌, ◌%◌, ltb, leb, eqb, get_or}
 use Rattle.laws.specs.Pick.{pick}
 use Rattle.marks.specs.Used.{used_at}
 use Rattle.model.specs.Slots.{value_of, slot_of, in_range}

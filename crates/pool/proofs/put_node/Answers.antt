@@ -1,6 +1,5 @@
 -- `pool::put_node` meets its contract: its eight stores are those of the definition (proofs/RecordStores). Assumes nothing.
 use native.Mathlib.Omega.{arith}
-use borrow.Author.Rules.{rules}
 use lib.ListN.{length-set}
 use Rattle.pool.proofs.RecordStores.{put_node_stores}
 use Rattle.pool.proofs.put_node.Goals as goal

@@ -1,6 +1,5 @@
 -- `pool::slot_at` meets its contract: each way out is what the slot's word says by its kind (proofs/Slots). Assumes nothing.
 use mathlib.Core.Path.{sym, ◌∙◌}
-use borrow.Author.Rules.{rules}
 use Rattle.pool.specs.Reading.{slot_at}
 use Rattle.pool.proofs.Slots.{says-null, says-data, says_misplaced, says-child, says-unknown}
 use Rattle.pool.proofs.slot_at.Goals as goal

@@ -1,11 +1,8 @@
 -- `pool::zero_all` meets its contract. The loop's invariant: what is left to zero from here to the end is the whole
 -- (proofs/Sets, RunStores). Assumes nothing.
-use mathlib.Core.Path.{◌≡◌, refl, sym, ◌∙◌}
-use Prim.Native.Nat.{◌-◌}
+use mathlib.Core.Path.{refl, sym, ◌∙◌}
 use native.Mathlib.Omega.{arith}
-use borrow.Author.Rules.{rules}
-use lib.ListN.{length, replicate, length-set}
-use lib.Seq.{sets}
+use lib.ListN.{length-set}
 use Rattle.pool.proofs.RunStores.{zeros-whole}
 use Rattle.pool.proofs.Sets.{zeros-step, zeros-end}
 use Rattle.pool.proofs.zero_all.Goals as goal

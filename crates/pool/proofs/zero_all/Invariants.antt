@@ -1,13 +1,9 @@
 -- `pool::zero_all` meets its contract. The loop's invariant: what is left to zero from here to the end is the whole
 -- (proofs/Sets, RunStores). Assumes nothing.
-use mathlib.Core.Path.{◌≡◌, refl, sym, ◌∙◌}
+use mathlib.Core.Path.{◌≡◌}
 use Prim.Native.Nat.{◌-◌}
-use native.Mathlib.Omega.{arith}
-use borrow.Author.Rules.{rules}
-use lib.ListN.{length, replicate, length-set}
+use lib.ListN.{length, replicate}
 use lib.Seq.{sets}
-use Rattle.pool.proofs.RunStores.{zeros-whole}
-use Rattle.pool.proofs.Sets.{zeros-step, zeros-end}
 use Rattle.pool.proofs.zero_all.Given as goal
 
 abbrev pub invariant-loop-k : goal.invariant-loop-k

@@ -1,6 +1,5 @@
 -- `pool::zero_record` meets its contract: its eight stores are those of the definition (proofs/RecordStores). Assumes nothing.
 use native.Mathlib.Omega.{arith}
-use borrow.Author.Rules.{rules}
 use lib.ListN.{length-set}
 use Rattle.pool.proofs.RecordStores.{zero_record_stores}
 use Rattle.pool.proofs.zero_record.Goals as goal

@@ -1,14 +1,10 @@
 -- `pool::zero_run` meets its contract. The loop's invariant: what is left to zero from here to the run's end is the whole
 -- (proofs/Sets, RunStores). Assumes nothing.
-use mathlib.Core.Path.{◌≡◌, refl, sym, ◌∙◌}
+use mathlib.Core.Path.{◌≡◌}
 use Prim.Native.Nat.{◌-◌, ◌≤◌}
-use native.Mathlib.Omega.{arith}
-use borrow.Author.Rules.{rules}
-use lib.ListN.{length, replicate, length-set}
+use lib.ListN.{length, replicate}
 use lib.Seq.{sets}
 use Rattle.pool.specs.Writing.{zero_run}
-use Rattle.pool.proofs.RunStores.{zero_run-start}
-use Rattle.pool.proofs.Sets.{zeros-step, zeros-end}
 use Rattle.pool.proofs.zero_run.Given as goal
 
 abbrev pub invariant-loop-i : goal.invariant-loop-i
