@@ -1,15 +1,13 @@
 -- Decimals: one digit more, how many there are, and that they read back as the number. Assumes nothing.
-use mathlib.Core.Bool.{true, false}
 use mathlib.Core.List.{List, [], ◌∷◌, ◌++◌}
 use mathlib.Core.Path.{◌≡◌, refl, sym, ap, ◌∙◌}
 use Prim.Native.Nat.{ℕ, zero, suc, ◌+◌, ◌*◌, ◌-◌, ◌/◌, ◌%◌, ◌^◌, ◌<◌, ◌≤◌}
 use native.Mathlib.Omega.{arith}
-use lib.Dec.{ltb}
 use lib.ListN.{length, length-append}
 use borrow.Author.Tests.{lt-ltb, le-ltb}
-use mathlib.Core.Logic.{◌⊎◌, ⊎_elim}
+use mathlib.Core.Logic.{⊎_elim}
 use Rattle.laws.proofs.Tests.{le_or_lt}
-use Rattle.lines.specs.Lines.{digit, digits, decimal, spaced, line, numbers, longest_number}
+use Rattle.lines.specs.Lines.{digit, digits, decimal, spaced, longest_number}
 
 digits-below : (f n : ℕ) → n < 10 → digits (suc f) n ≡ digit n ∷ []
 unfolding digits

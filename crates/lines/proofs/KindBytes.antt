@@ -1,14 +1,12 @@
 -- A byte that is none of the five kinds is no kind, and a kind's body is as long as its operation says. Assumes nothing.
-use mathlib.Core.Path.{◌≡◌, refl, sym, subst}
+use mathlib.Core.Path.{◌≡◌, refl, subst}
 use Prim.Native.Nat.{ℕ}
 use lib.Dec.{eqb}
 use borrow.Author.Tests.{ne_eqb}
-use Rattle.lines.specs.Kinds.{body_length, known, kind_of}
-use Rattle.laws.specs.Pick.{pick}
+use Rattle.lines.specs.Kinds.{body_length, kind_of}
 use Rattle.laws.proofs.Tests.{pick_in}
 use Rattle.lines.specs.declared.Kind.{Kind}
 use Rattle.lines.specs.declared.Operation.{Operation}
-use Rattle.lines.specs.declared.Operation.TheVariants.{Insert, Delete, Lookup, Band, Replace}
 use Rattle.lines.specs.declared.Kind.TheVariants.{Known, Unknown}
 
 pub none_of_five : (b : ℕ) → (b ≡ 1 → ⊥) → (b ≡ 2 → ⊥) → (b ≡ 3 → ⊥) → (b ≡ 4 → ⊥) → (b ≡ 5 → ⊥) → Unknown ≡ kind_of b

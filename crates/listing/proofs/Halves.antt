@@ -1,6 +1,6 @@
 -- The two halves of a rebuild's listing, up to the new key and from it on: each key lies where it is asked for, and together they are
 -- no more than the rules allow. Assumes nothing.
-use mathlib.Core.Bool.{Bool, true, false, ◌&&◌}
+use mathlib.Core.Bool.{true, false, ◌&&◌}
 use mathlib.Core.List.{List, [], ◌∷◌}
 use mathlib.Core.Logic.{⊎_elim}
 use mathlib.Core.Path.{◌≡◌, ap}

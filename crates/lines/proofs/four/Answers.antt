@@ -1,8 +1,5 @@
-
 use native.Mathlib.Omega.{arith}
 use Rattle.lines.proofs.Endian.{halves}
-use borrow.Author.Rules.{rules}
-use Rattle.lines.proofs.four.Lts as lts
 use Rattle.lines.proofs.four.Goals as goal
 
 pub returns : goal.returns

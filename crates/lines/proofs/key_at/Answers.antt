@@ -1,8 +1,5 @@
-
 use native.Mathlib.Omega.{arith}
 use Rattle.lines.proofs.Endian.{halves}
-use borrow.Author.Rules.{rules}
-use Rattle.lines.proofs.key_at.Lts as lts
 use Rattle.lines.proofs.key_at.Goals as goal
 
 pub returns : goal.returns

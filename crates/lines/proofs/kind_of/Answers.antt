@@ -3,8 +3,6 @@ use Rattle.lines.proofs.KindBytes.{none_of_five}
 use mathlib.Core.Path.{◌≡◌}
 use native.Mathlib.Omega.{arith}
 use Rattle.lines.specs.Kinds.{kind_of}
-use borrow.Author.Rules.{rules}
-use Rattle.lines.proofs.kind_of.Lts as lts
 use Rattle.lines.proofs.kind_of.Goals as goal
 
 pub returns-in-1 : goal.returns-in-1
@@ -33,5 +31,4 @@ returns-in-0 c = let e : c.args.byte ≡ 0 = omega arith in rw e
 
 pub returns-in-0-2 : goal.returns-in-0-2
 unfolding kind_of
-returns-in-0-2 c = let r = c.in-0.rest in
-    none_of_five c.args.byte r.0.0.0.0.0.1 r.0.0.0.0.1 r.0.0.0.1 r.0.0.1 r.0.1
+returns-in-0-2 c = none_of_five c.args.byte (omega arith) (omega arith) (omega arith) (omega arith) (omega arith)

@@ -1,10 +1,7 @@
 -- `lines::line_of_three` meets its contract: its parts one after another are the line. Assumes nothing.
-use mathlib.Core.List.{[], ◌∷◌}
 use native.Mathlib.Omega.{arith}
-use Rattle.lines.specs.Lines.{line, numbers, newline}
+use Rattle.lines.specs.Lines.{line, numbers}
 use Rattle.lines.proofs.Writing.{then_write}
-use borrow.Author.Rules.{rules}
-use Rattle.lines.proofs.line_of_three.Lts as lts
 use Rattle.lines.proofs.line_of_three.Goals as goal
 
 pub returns : goal.returns

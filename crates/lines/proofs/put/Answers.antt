@@ -2,8 +2,6 @@
 use mathlib.Core.Path.{refl}
 use lib.ListN.{length-set}
 use Rattle.lines.specs.Lines.{write}
-use borrow.Author.Rules.{rules}
-use Rattle.lines.proofs.put.Lts as lts
 use Rattle.lines.proofs.put.Goals as goal
 
 pub returns : goal.returns

@@ -6,8 +6,6 @@ use native.Mathlib.Omega.{arith}
 use Rattle.lines.specs.Lines.{space, decimal, spaced, longest_number}
 use Rattle.lines.proofs.Decimals.{spaced-length}
 use Rattle.lines.proofs.Writing.{then_write}
-use borrow.Author.Rules.{rules}
-use Rattle.lines.proofs.put_spaced.Lts as lts
 use Rattle.lines.proofs.put_spaced.Goals as goal
 
 pub put_decimal-requires : goal.put_decimal-requires

@@ -1,13 +1,9 @@
-
-use mathlib.Core.Path.{◌≡◌, refl}
+use mathlib.Core.Path.{◌≡◌}
 use Prim.Native.Nat.{◌+◌, ◌*◌}
 use lib.ListN.{get_or, drop}
 use Rattle.laws.specs.Bytes.{little_endian}
-use mathlib.Core.Path.{sym}
 use native.Mathlib.Omega.{arith}
 use Rattle.lines.proofs.Endian.{two_bytes}
-use borrow.Author.Rules.{rules}
-use Rattle.lines.proofs.two.Lts as lts
 use Rattle.lines.proofs.two.Goals as goal
 
 pub returns : goal.returns

@@ -1,15 +1,11 @@
 -- `listing::count` meets its contract. The loop's invariant: with what is left the count is that of all (proofs/Counts).
 -- The measure is how many items are left. Assumes nothing.
-use mathlib.Core.Path.{◌≡◌, sym, ap, ◌∙◌}
-use native.Mathlib.Omega.{arith}
-use borrow.Author.Rules.{rules}
+use mathlib.Core.Path.{◌≡◌}
 use lib.ListN.{length}
 use Rattle.pool.specs.Memory.{mem}
 use Rattle.listing.specs.Listing.{listing, left, count_from}
-use Rattle.listing.proofs.Counts.{Counting, counting_first, counting_full, counting_next, counting_less, counting_broken, counting_end}
-use Rattle.listing.proofs.Landings.{held-stands}
+use Rattle.listing.proofs.Counts.{Counting}
 use Rattle.walk.specs.Walks.{longest_path}
-use Rattle.walk.specs.declared.Item.TheVariants.{Broken, End}
 use Rattle.listing.proofs.count.Given as goal
 
 abbrev pub invariant-loop-slot : goal.invariant-loop-slot

@@ -1,13 +1,10 @@
 -- `listing::to_listed` meets its contract. The loop's invariant: what is left from here lists what all that was left does, since an
 -- element outside u to v adds nothing (proofs/Landings). The measure is how many items are left. Assumes nothing.
-use mathlib.Core.Path.{◌≡◌, refl, sym, ◌∙◌}
-use native.Mathlib.Omega.{arith}
-use borrow.Author.Rules.{rules}
+use mathlib.Core.Path.{◌≡◌}
 use lib.ListN.{length}
 use Rattle.pool.specs.Memory.{mem}
 use Rattle.listing.specs.Listing.{left}
-use Rattle.listing.proofs.Landings.{Reached, reached_first, reached_next, held-stands, one_shorter, lands_in, lands_broken, lands_end}
-use Rattle.walk.specs.declared.Item.TheVariants.{Broken, End}
+use Rattle.listing.proofs.Landings.{Reached}
 use Rattle.listing.proofs.to_listed.Given as goal
 
 abbrev pub invariant-loop-k : goal.invariant-loop-k

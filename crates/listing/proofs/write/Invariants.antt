@@ -1,17 +1,12 @@
 -- `listing::write` meets its contract. The loop's invariant: with what is left written from here the output is whole
 -- (proofs/Writes). Assumes nothing.
-use mathlib.Core.Path.{◌≡◌, refl, sym, ◌∙◌}
-use Prim.Native.Nat.{◌+◌, ◌-◌, ◌<◌}
-use native.Mathlib.Omega.{arith}
-use borrow.Author.Rules.{rules}
-use lib.ListN.{length, length-set}
-use lib.Seq.{sets}
+use mathlib.Core.Path.{◌≡◌}
+use Prim.Native.Nat.{◌-◌}
+use lib.ListN.{length}
 use Rattle.pool.specs.Memory.{mem}
 use Rattle.listing.specs.Listing.{listing, left}
-use Rattle.listing.proofs.Landings.{held-stands, held-sound}
-use Rattle.listing.proofs.Writes.{payloads_at, Writing, writing_first, writing_within, writing_next, writing_broken, writing_end, writing_done, place-within, all_written}
+use Rattle.listing.proofs.Writes.{Writing}
 use Rattle.walk.specs.Walks.{longest_path}
-use Rattle.walk.specs.declared.Item.TheVariants.{Broken, End}
 use Rattle.listing.proofs.write.Given as goal
 
 abbrev pub invariant-loop-n : goal.invariant-loop-n
