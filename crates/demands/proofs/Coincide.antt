@@ -14,7 +14,6 @@ use Rattle.desk.specs.declared.ListedAnswer.{ListedAnswer}
 use Rattle.desk.specs.declared.LoadedAnswer.{LoadedAnswer}
 use Rattle.insert.specs.Inserting.{Insert, insertion, inserted}
 use Rattle.insert.specs.declared.Inserted.{Inserted}
-use Rattle.insert.specs.declared.Inserted.TheVariants as Inserted
 use Rattle.insert.specs.declared.Inserting.{Inserting}
 use Rattle.laws.specs.Answers.{Answer, wrong_sizes, out_of_range, reversed, not_rising, held, not_held, full, no_room}
 use Rattle.laws.specs.Pick.{pick}
@@ -29,15 +28,11 @@ use Rattle.store.specs.Bands.{Band, band, listed}
 use Rattle.store.specs.Calls.{Call, call, looked, changed}
 use Rattle.store.specs.Loading.{loaded}
 use Rattle.store.specs.declared.Changed.{Changed}
-use Rattle.store.specs.declared.Changed.TheVariants as Changed
 use Rattle.store.specs.declared.Changing.{Changing}
 use Rattle.store.specs.declared.Handle.{Handle}
 use Rattle.store.specs.declared.Listed.{Listed}
-use Rattle.store.specs.declared.Listed.TheVariants as Listed
 use Rattle.store.specs.declared.Loaded.{Loaded}
-use Rattle.store.specs.declared.Loaded.TheVariants as Loaded
 use Rattle.store.specs.declared.Looked.{Looked}
-use Rattle.store.specs.declared.Looked.TheVariants as Looked
 
 -- The argument. What is told of an exit is told of that exit alone: then it coincides with every other that tells the same.
 abbrev pub Injective : {X Y : Type 0} → (X → Y) → Type 0

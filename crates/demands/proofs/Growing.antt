@@ -28,7 +28,7 @@ use Rattle.pool.specs.Writing.{put_data, put_child}
 use Rattle.pool.specs.declared.Node.{Node}
 use Rattle.demands.specs.Growing.{Grown, is, no_room, Row, are, no_room_row, fresh_head, row_after, then_row, node_over, Grower, grow_slot, grow_slots, grow_on, grow_with, grow}
 use Rattle.demands.specs.Map.{Map, EachKey, bulkload}
-use Rattle.demands.specs.Placed.{Head, Branch, null, leaf, sub, Forest, nil, cons, len, app, flat_b, flat_f, depth_b, depth_f, cell_of, Word, bit, in_slot, cell_w, at, in_b, view, HeadOk, OkB, OkF, Frame, plug}
+use Rattle.demands.specs.Placed.{Head, Branch, null, leaf, sub, Forest, nil, cons, len, app, flat_b, flat_f, depth_b, depth_f, cell_of, Word, bit, in_slot, cell_w, in_b, view, HeadOk, OkB, OkF, Frame, plug}
 use Rattle.demands.proofs.Adding.{Fine, Added, added, sized_as, nulls, Free, place_added, used_is, found_free}
 use Rattle.demands.proofs.Changing.{put_slot, cell_delta}
 use Rattle.demands.proofs.Parting.{at_s, from_s, at_each, from_none, from_all, from_split, group_is, group_same, keys_rise}

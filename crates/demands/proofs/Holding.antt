@@ -7,7 +7,7 @@ use lib.ListN.{get_or}
 use lib.Seq.{ext_get_or}
 use Rattle.marks.proofs.Words.{bits_equal}
 use Rattle.pool.specs.Memory.{Mem}
-use Rattle.demands.specs.Placed.{Head, Branch, sub, Forest, cons, len, node, cell_of, Word, bit, in_node, in_slot, cell_w, at, in_f, view, Words}
+use Rattle.demands.specs.Placed.{Head, Branch, sub, Forest, cons, len, node, cell_of, Word, bit, in_node, in_slot, cell_w, in_f, view, Words}
 use Rattle.demands.proofs.Plugs.{at_same, at_none, none-b, none-f}
 use Rattle.demands.proofs.Reading.{Holds, bit_small}
 use Rattle.demands.proofs.Walking.{Sized, Kept, view-node, view-slot}

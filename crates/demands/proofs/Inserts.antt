@@ -10,7 +10,6 @@ use borrow.Author.Tests.{leb-true, leb-false, eqb-true, eqb-false, lt-ltb, le-lt
 use lib.Dec.{ltb, leb, eqb}
 use lib.ListN.{length, get_or, replicate, length-replicate}
 use lib.Seq.{sets, sets-eq}
-use Rattle.build.specs.Building.{out}
 use Rattle.build.specs.declared.Built.{Built}
 use Rattle.build.specs.declared.Built.TheVariants.{At, NoRoom as Roomless}
 use Rattle.counters.specs.Counters.{due_in}
@@ -26,7 +25,7 @@ use Rattle.laws.specs.Pick.{pick}
 use Rattle.pool.specs.Memory.{Mem}
 use Rattle.rebuild.proofs.Gathering.{with_few}
 use Rattle.rebuild.specs.Pairs.{pair_if}
-use Rattle.rebuild.specs.Rebuilding.{sound_below, keys_with, Scratch, scratch, wiped, rebuild_over, rebuild_of}
+use Rattle.rebuild.specs.Rebuilding.{sound_below, keys_with, Scratch, wiped, rebuild_over, rebuild_of}
 use Rattle.store.proofs.Fitting.{fits_given}
 use Rattle.store.specs.Handles.{handle_fits}
 use Rattle.store.specs.declared.Handle.{Handle}

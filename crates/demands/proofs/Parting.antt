@@ -1,7 +1,7 @@
 -- Keys parted by their slots: those of one slot are a part of the map in order, the parts one after the other are the map. Assumes
 -- nothing.
 use mathlib.Core.List.{List, [], ◌∷◌, ◌++◌}
-use mathlib.Core.Logic.{◌⊎◌, ⊎_elim}
+use mathlib.Core.Logic.{⊎_elim}
 use mathlib.Core.Path.{◌≡◌, refl, ap}
 use native.Mathlib.Omega.{arith}
 use Prim.Native.Nat.{ℕ, suc, zero-le, ◌+◌, ◌<◌, ◌≤◌}

@@ -8,7 +8,7 @@ use Prim.Native.Nat.{ℕ, ◌<◌, ◌≤◌}
 use lib.Dec.{eqb, ltb}
 use lib.ListN.{length, get_or}
 use borrow.Author.Tests.{lt-ltb, le-ltb, ltb-true, ltb-false, ne_eqb, eqb-false}
-use Rattle.build.specs.Building.{Out, out, build}
+use Rattle.build.specs.Building.{Out, build}
 use Rattle.build.specs.Releasing.{release}
 use Rattle.counters.specs.Counters.{due_in}
 use Rattle.insert.specs.Inserting.{Insert, insertion, Fresh, fresh, settled, slot_above, tidy_by, rebuild_at, tidy_of, pair_ends, held_payload, sound_due, settle_at as settle_at_of, settle_of, whole_ends, whole_by, whole_of, unless_full as unless_full_of, insert_end as insert_end_of, insert_of, not_due}

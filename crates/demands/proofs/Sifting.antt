@@ -2,7 +2,7 @@
 -- is not among them. Assumes nothing.
 use mathlib.Core.Bool.{Bool, true, false, ◌&&◌, not}
 use mathlib.Core.List.{List, [], ◌∷◌, ◌++◌, append_assoc}
-use mathlib.Core.Path.{◌≡◌, refl, sym, subst, subst⁻¹, ap, ◌∙◌}
+use mathlib.Core.Path.{◌≡◌, refl, sym, subst⁻¹, ap, ◌∙◌}
 use native.Mathlib.Omega.{arith}
 use Prim.Native.Nat.{ℕ, zero, suc, ◌+◌, ◌<◌, ◌≤◌}
 use lib.Dec.{eqb, leb}
@@ -22,7 +22,7 @@ use Rattle.walk.specs.declared.Item.TheVariants.{Held}
 use Rattle.walk.specs.declared.Rules.{Rules}
 use Rattle.walk.specs.declared.Span.{Span}
 use Rattle.demands.specs.Map.{Map, EachKey, Rises, size}
-use Rattle.demands.specs.Placed.{Head, Branch, null, leaf, sub, Forest, nil, cons, len, flat_b, flat_f, bit, cell_w, at, view, model_in}
+use Rattle.demands.specs.Placed.{Head, Branch, null, leaf, sub, Forest, nil, cons, len, flat_b, flat_f, bit, cell_w, view, model_in}
 use Rattle.demands.proofs.Around.{size-app}
 use Rattle.demands.proofs.Holding.{HoldsF, run_holds, branch-holds, rest-holds}
 use Rattle.demands.proofs.Plugs.{all_left, all_right}

@@ -7,7 +7,7 @@ use mathlib.Core.Path.{◌≡◌, refl, sym, subst, subst⁻¹, ap, ◌∙◌}
 use native.Mathlib.Omega.{arith}
 use Prim.Native.Nat.{ℕ, ◌+◌, ◌<◌, ◌≤◌}
 use lib.ListN.{length, get_or, take}
-use Rattle.build.specs.Building.{Out, out}
+use Rattle.build.specs.Building.{Out}
 use Rattle.build.specs.Releasing.{release}
 use Rattle.counters.specs.Counters.{raise}
 use Rattle.insert.specs.Inserting.{Fresh, fresh, settled, standing, hung, root_at, replaced, tidy_ends, tidy_by, rebuild_at, one_more_at, put_off, tidied, as_number}

@@ -23,7 +23,7 @@ use Rattle.walk.specs.declared.End.{End as WalkEnd}
 use Rattle.walk.specs.declared.End.TheVariants.{Empty, Key}
 use Rattle.walk.specs.declared.Step.TheVariants.{Down, Stop}
 use Rattle.demands.specs.Map.{EachKey}
-use Rattle.demands.specs.Placed.{Head, Branch, null, leaf, sub, len, flat_b, depth_b, node, cell_of, Word, bit, in_node, in_slot, cell_w, at, in_b, view, HeadOk, model_in, OkB, Frame, plug, width, Follows, Words}
+use Rattle.demands.specs.Placed.{Head, Branch, null, leaf, sub, len, flat_b, depth_b, node, cell_of, Word, bit, in_node, in_slot, cell_w, in_b, view, HeadOk, model_in, OkB, Frame, plug, width, Follows, Words}
 use Rattle.demands.proofs.Plugs.{FrameOk, frame_of, slot_h, End, deep_in}
 use Rattle.demands.proofs.Reading.{Holds, holds-below, read_head, read_spot}
 

@@ -1,9 +1,7 @@
 -- `session::move_to_front` meets its contract. The invariant: the bytes moved so far stand in front (proofs/Moves). Assumes nothing.
-use Prim.Native.Nat.{◌-◌, ◌≤◌}
 use mathlib.Core.Path.{refl}
 use native.Mathlib.Omega.{arith}
-use Rattle.session.proofs.Moves.{Moved, moved_next, moved_all}
-use Rattle.session.proofs.move_to_front.Lts as lts
+use Rattle.session.proofs.Moves.{moved_next, moved_all}
 use Rattle.session.proofs.move_to_front.Goals as goal
 
 pub overflow_sub-n : goal.overflow_sub-n

@@ -1,13 +1,7 @@
 -- `session::run_held` meets its contract (proofs/Turning). Assumes nothing.
-use mathlib.Core.Path.{refl, sym}
+use mathlib.Core.Path.{sym}
 use native.Mathlib.Omega.{arith}
-use lib.ListN.{take}
 use lib.Seq.{length-take-le}
-use Rattle.pool.specs.Memory.{mem}
-use Rattle.rebuild.specs.Rebuilding.{scratch}
-use Rattle.operations.specs.Stepping.{state}
-use Rattle.session.proofs.Turning.{rests_moved, turned}
-use borrow.Author.Rules.{rules}
 use Rattle.session.proofs.run_held.Goals as goal
 
 pub slice_bounds-run-end-2 : goal.slice_bounds-run-end-2
