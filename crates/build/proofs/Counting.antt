@@ -12,7 +12,7 @@ use lib.Dec.{eqb}
 use lib.ListN.{length, get_or, take, drop, set, length-append, length-drop, take-append-drop, drop_of_length-le}
 use lib.Seq.{sets, length-sets, get_or-drop, drop-drop}
 use Rattle.laws.proofs.Sets.{sets_append}
-use Rattle.laws.proofs.Parts.{length_part, get_d_part}
+use Rattle.laws.proofs.Parts.{length_part, get_or-part}
 use Rattle.laws.proofs.Risings.{rising_part}
 use Rattle.laws.proofs.Tests.{both, le_or_lt}
 use Rattle.laws.specs.Keys.{Rising}
@@ -110,7 +110,7 @@ module _ {m : Model} {ks : List ℕ} {a b : ℕ} (range : InRange m) (r : Rising
   run_here : (i : ℕ) → i < length (take (b - a) (drop a ks)) → slot_of m (value_of (get_or (take (b - a) (drop a ks)) i 0)) ≡ slot_of m (value_of (get_or ks a 0))
   run_here i lt =
       let n : length (take (b - a) (drop a ks)) ≡ b - a = length_part ks a b run.within in
-      rw (get_d_part ks a b i (omega arith)) (run.shared (a + i) (omega arith) (omega arith))
+      rw (get_or-part ks a b i (omega arith)) (run.shared (a + i) (omega arith) (omega arith))
 
   run_later : (i : ℕ) → i < length (drop b ks) → slot_of m (value_of (get_or ks a 0)) < slot_of m (value_of (get_or (drop b ks) i 0))
   run_later i lt =

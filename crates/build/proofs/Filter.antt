@@ -10,7 +10,7 @@ use borrow.Author.Tests.{ltb-true, ltb-false, lt-ltb, le-ltb, eq-eqb, ne_eqb}
 use lib.Dec.{ltb}
 use lib.ListN.{length, get_or, take, drop}
 use Rattle.laws.specs.Keys.{Rising}
-use Rattle.laws.proofs.Parts.{length_part, get_d_part}
+use Rattle.laws.proofs.Parts.{length_part, get_or-part}
 use Rattle.laws.proofs.Risings.{rising_tail}
 use Rattle.laws.proofs.Tests.{both, le_or_lt}
 use Rattle.model.specs.Groups.{keys_to, count_before}
@@ -239,8 +239,8 @@ module _ (B : Builder) (r : ℕ) (n : Node) (ks ps : List ℕ) (h : Rising ks) (
     filled_data m' one e =
         let within : b ≤ length ks = rw eb (before_within md (t + 1) ks) in
         let z : a + 0 ≡ a = omega arith in
-        let k0 : get_or keys 0 0 ≡ get_or ks a 0 = rw z at (get_d_part ks a b 0 (omega arith)) in
-        let p0 : get_or payloads 0 0 ≡ get_or ps a 0 = rw z at (get_d_part ps a b 0 (omega arith)) in
+        let k0 : get_or keys 0 0 ≡ get_or ks a 0 = rw z at (get_or-part ks a b 0 (omega arith)) in
+        let p0 : get_or payloads 0 0 ≡ get_or ps a 0 = rw z at (get_or-part ps a b 0 (omega arith)) in
         let d : fill_slot B r (n.start + t) keys payloads m ≡ out (At r) (with_slots m (put_data m.slots (n.start + t) (get_or keys 0 0) (get_or payloads 0 0)))
         = fill_one B r (n.start + t) payloads m keys (length_part ks a b within ∙ one) in
         filled_next m' (rw e (sym (turn ∙ rw (d, k0, p0))))

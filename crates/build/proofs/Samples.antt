@@ -30,14 +30,14 @@ after =
     ∷ 0 ∷ 0 ∷ (2 ^ 48 + 10000) ∷ 5 ∷ (2 ^ 48 + 20000) ∷ 6 ∷ 0 ∷ 0 ∷ [])
     ((7 + (2 ^ 20 - 1) * 16) ∷ [])
 
-P4 : build 3 p4 (1 ∷ 2 ∷ 3 ∷ 4 ∷ 5 ∷ 6 ∷ []) before ≡ out (At 0) after
+p4_built : build 3 p4 (1 ∷ 2 ∷ 3 ∷ 4 ∷ 5 ∷ 6 ∷ []) before ≡ out (At 0) after
 unfolding before p4 after used_at mark_at mark_run first_from first_unused free_run lowest_from lowest_run slots_for count_at spread_below spread model_at least_from t_of empty_model model_of keys_to slot_of put_node put_data put_child zero_run lowest_record lowest_slots place_node payloads_to fill_slot fill_slots node_on node_with build
-P4 = refl
+p4_built = refl
 
-P4-sizes : sizes_of 3 p4 ≡ 12 ∷ 4 ∷ 4 ∷ []
+p4_sizes : sizes_of 3 p4 ≡ 12 ∷ 4 ∷ 4 ∷ []
 unfolding p4 slots_for count_at spread_below spread model_at least_from t_of empty_model model_of keys_to slot_of sizes_of sizes_under
-P4-sizes = refl
+p4_sizes = refl
 
-P4-depth : depth_of 3 p4 ≡ 2
+p4_depth : depth_of 3 p4 ≡ 2
 unfolding p4 slots_for count_at spread_below spread model_at least_from t_of empty_model model_of keys_to slot_of depth_of depth_under
-P4-depth = refl
+p4_depth = refl

@@ -11,7 +11,7 @@ use lib.Dec.{ltb}
 use lib.ListN.{length, get_or, take, drop, drop_of_length-le}
 use lib.Seq.{drop-cons}
 use Rattle.laws.specs.Keys.{Rising, fall_from, first_fall}
-use Rattle.laws.proofs.Parts.{length_part, get_d_part}
+use Rattle.laws.proofs.Parts.{length_part, get_or-part}
 use Rattle.laws.proofs.Tests.{both}
 
 -- of the first n keys every earlier one is below every later one
@@ -35,10 +35,10 @@ pub rising_part : (ks : List ℕ) (a b : ℕ) → b ≤ length ks → Rising ks 
 rising_part ks a b h r = record {
   below = λ i lt.
       let n : length (take (b - a) (drop a ks)) ≡ b - a = length_part ks a b h in
-      rw (get_d_part ks a b i (omega arith)) (r.below (a + i) (omega arith));
+      rw (get_or-part ks a b i (omega arith)) (r.below (a + i) (omega arith));
   rises = λ i j lt under.
       let n : length (take (b - a) (drop a ks)) ≡ b - a = length_part ks a b h in
-      rw (get_d_part ks a b i (omega arith), get_d_part ks a b j (omega arith)) (r.rises (a + i) (a + j) (omega arith) (omega arith));
+      rw (get_or-part ks a b i (omega arith), get_or-part ks a b j (omega arith)) (r.rises (a + i) (a + j) (omega arith) (omega arith));
 }
 
 -- the search ends at most past the last place

@@ -66,11 +66,11 @@ unfolding band_of band_out band_items listing handle_fits limits_hold pools_are 
 bands = (refl, refl, refl, refl, refl)
 
 -- refusals in their order: sizes, range, order, and only then damage
-Refusals : (band_of handle (2 ^ 48) 0 (slot_two (3 * 2 ^ 48)) (nines 1) (nines 2) ≡ band (refused wrong_sizes) (nines 1) (nines 2))
+refusals : (band_of handle (2 ^ 48) 0 (slot_two (3 * 2 ^ 48)) (nines 1) (nines 2) ≡ band (refused wrong_sizes) (nines 1) (nines 2))
     × (band_of handle (2 ^ 48) 0 (slot_two (3 * 2 ^ 48)) (nines 1) (nines 1) ≡ band (refused out_of_range) (nines 1) (nines 1))
     × (band_of handle 40 10 (slot_two (3 * 2 ^ 48)) (nines 1) (nines 1) ≡ band (refused reversed) (nines 1) (nines 1))
 unfolding band_of handle_fits limits_hold pools_are
-Refusals = (refl, refl, refl)
+refusals = (refl, refl, refl)
 
 -- a node that is its own child: its path has 24 nodes, and then one too many
 endless : Mem

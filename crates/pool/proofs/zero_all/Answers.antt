@@ -4,7 +4,7 @@ use mathlib.Core.Path.{refl, sym, ◌∙◌}
 use native.Mathlib.Omega.{arith}
 use lib.ListN.{length-set}
 use Rattle.pool.proofs.RunStores.{zeros-whole}
-use Rattle.pool.proofs.Sets.{zeros-step, zeros-end}
+use Rattle.pool.proofs.Sets.{zeros-step}
 use Rattle.pool.proofs.zero_all.Goals as goal
 
 pub loop-k-init : goal.loop-k-init
@@ -13,7 +13,3 @@ loop-k-init c = (refl, zeros-whole c.args.words.now)
 pub loop-k-preserved : goal.loop-k-preserved
 loop-k-preserved c =
     (simp length-set c.loop-k.invariant.0, sym (zeros-step c.loop-k.words c.loop-k.k _ (omega arith)) ∙ c.loop-k.invariant.1)
-
-pub returns : goal.returns
-returns c =
-    sym (zeros-end c.loop-k.words c.loop-k.k _ (omega arith)) ∙ c.loop-k.invariant.1

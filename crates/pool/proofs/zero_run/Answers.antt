@@ -4,7 +4,7 @@ use mathlib.Core.Path.{refl, sym, ◌∙◌}
 use native.Mathlib.Omega.{arith}
 use lib.ListN.{length-set}
 use Rattle.pool.proofs.RunStores.{zero_run-start}
-use Rattle.pool.proofs.Sets.{zeros-step, zeros-end}
+use Rattle.pool.proofs.Sets.{zeros-step}
 use Rattle.pool.proofs.zero_run.Goals as goal
 
 pub loop-i-init : goal.loop-i-init
@@ -13,7 +13,3 @@ loop-i-init c = (omega arith, refl, zero_run-start _ _ _)
 pub loop-i-preserved : goal.loop-i-preserved
 loop-i-preserved c =
     (omega arith, simp length-set c.loop-i.invariant.1, sym (zeros-step c.loop-i.slots c.loop-i.i _ c.loop-i-test.true) ∙ c.loop-i.invariant.2)
-
-pub returns : goal.returns
-returns c =
-    sym (zeros-end c.loop-i.slots c.loop-i.i _ c.loop-i-test.false) ∙ c.loop-i.invariant.2
