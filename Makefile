@@ -4,6 +4,7 @@
 #   make run         document 01's example session, written as text, through the session program; held to what document 01 prints
 #   make session     the session program, target/bin/session
 #   make answers     crates/session/stdin from tests/answers.session, and crates/session/stdout from the second program
+#   make libs        both C libraries, target/staticlib/libedge.a and libdesk.a
 #   make show        the soundings P1 and P9 through the C edge
 #   make edge-test   the C test alone; last line 'edge: N passed, M failed'
 #   make second      the independent second program; last line 'second: N passed, M failed'
@@ -57,7 +58,7 @@ need_rt = $(call need,rt,install the Rattle kit and put its rt on the PATH)
 
 need_python = $(call need,python3,install Python 3)
 
-.PHONY: test run session session-example answers show edge-test second second-program second-desk second-session second-sessions sessions-program soak memcheck desk-test desk-example picture worst bench bench-store clean edits statements
+.PHONY: test run libs session session-example answers show edge-test second second-program second-desk second-session second-sessions sessions-program soak memcheck desk-test desk-example picture worst bench bench-store clean edits statements
 
 test:
 	@test -x .ci/run || { echo ".ci/run is missing: take it from the repository again" >&2; exit 1; }
@@ -66,6 +67,8 @@ test:
 run: session-example
 
 session: $(SESSION)
+
+libs: $(EDGE) $(DESK)
 
 session-example: $(SESSION)
 	$(need_python)

@@ -7,7 +7,7 @@
  *   soorqabiye_slot_choice   the slot of a node that a key goes to
  *   soorqabiye_model_choice  the model of a node built over a list of keys
  *
- * They are in target/staticlib/libedge.a, made by `rt staticlib edge`:
+ * They are in target/staticlib/libedge.a, made by `make libs`:
  *
  *   gcc -std=c11 -Iinclude engine.c target/staticlib/libedge.a
  *

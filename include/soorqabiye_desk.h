@@ -10,7 +10,7 @@
  *   soorqabiye_band      the keys from u to v, in order
  *   soorqabiye_insert    a key put in
  *
- * They are in target/staticlib/libdesk.a, made by `rt staticlib desk`:
+ * They are in target/staticlib/libdesk.a, made by `make libs`:
  *
  *   gcc -std=c11 -Iinclude engine.c target/staticlib/libdesk.a
  *
