@@ -2,3 +2,4 @@ pub mod Answers
 pub mod Bytes
 pub mod Keys
 pub mod Pick
+pub mod Refusals

@@ -1,9 +1,14 @@
-// What every crate here may want and no crate repeats: the limits of a key, and definitions and lemmas (specs/, proofs/).
+// What every crate here may want and no crate repeats: the limits of a key, why a call refuses, and definitions and lemmas
+// (specs/, proofs/).
 #![tactic(auto)]
 
 ghost use Rattle.std.specs.Prelude.{◌≡◌};
 ghost use Rattle.laws.specs.Bytes.{key_bytes};
 ghost use Rattle.laws.specs.Keys.{key_bound};
+ghost use Rattle.laws.specs.Refusals.{number_of};
+
+use std::error::Error;
+use std::fmt;
 
 // A key is a whole number below BOUND, and takes BYTES bytes where it is written down.
 #[derive(Clone, Copy)]
@@ -22,3 +27,55 @@ impl Key {
         ensures bytes { Key.BYTES ≡ key_bytes }
     {}
 }
+
+// Why a call refuses, with what it tells besides: the place of the first key that does not rise, or how many nodes were visited
+// before the key was found not to be held.
+#[derive(Clone, Copy, Debug, PartialEq, Eq)]
+pub enum Refusal {
+    WrongSizes,
+    OutOfRange,
+    Reversed,
+    NotRising(usize),
+    Held,
+    NotHeld(usize),
+    Full,
+    NoRoom,
+    Damage,
+}
+
+impl Refusal {
+    // The number of the answer; done is 0.
+    pub fn number(self) -> u64
+        ensures { result ≡ number_of self }
+    {
+        match self {
+            Refusal::WrongSizes => 1,
+            Refusal::OutOfRange => 2,
+            Refusal::Reversed => 3,
+            Refusal::NotRising(_) => 4,
+            Refusal::Held => 5,
+            Refusal::NotHeld(_) => 6,
+            Refusal::Full => 7,
+            Refusal::NoRoom => 8,
+            Refusal::Damage => 9,
+        }
+    }
+}
+
+impl fmt::Display for Refusal {
+    fn fmt<W: fmt::Write>(&self, f: &mut fmt::Formatter<W>) -> fmt::Result {
+        match self {
+            Refusal::WrongSizes => write!(f, "a lent list or a size is wrong"),
+            Refusal::OutOfRange => write!(f, "a key, depth or number is out of range"),
+            Refusal::Reversed => write!(f, "the band's ends are reversed"),
+            Refusal::NotRising(place) => write!(f, "the key at place {place} does not rise"),
+            Refusal::Held => write!(f, "the key is held already"),
+            Refusal::NotHeld(visits) => write!(f, "the key is not held, after {visits} nodes"),
+            Refusal::Full => write!(f, "the capacity is used up"),
+            Refusal::NoRoom => write!(f, "the pools have no room"),
+            Refusal::Damage => write!(f, "the memory or a model is damaged"),
+        }
+    }
+}
+
+impl Error for Refusal {}

@@ -1,0 +1,62 @@
+-- A refusal's answer determines the refusal, and no refusal is done.
+use Rattle.std.proofs.Common.{◌≡◌, ℕ, List, [], ◌∷◌, get_or, eqb, refl, ap, sym, ◌∙◌}
+use Rattle.laws.specs.Answers.{Answer, done}
+use Rattle.laws.specs.Pick.{pick}
+use Rattle.laws.specs.Refusals.{number_of, refusal}
+use Rattle.laws.specs.declared.Refusal.{Refusal}
+use Rattle.laws.specs.declared.Refusal.TheVariants.{WrongSizes, OutOfRange, Reversed, NotRising, Held, NotHeld, Full, NoRoom, Damage}
+
+pub number-refusal : (e : Refusal) → (refusal e).number ≡ number_of e
+unfolding refusal
+number-refusal WrongSizes = refl
+number-refusal OutOfRange = refl
+number-refusal Reversed = refl
+number-refusal (NotRising place) = refl
+number-refusal Held = refl
+number-refusal (NotHeld visits) = refl
+number-refusal Full = refl
+number-refusal NoRoom = refl
+number-refusal Damage = refl
+
+-- the refusal of an answer
+abbrev refusal_in : Answer ℕ → Refusal
+refusal_in a =
+    pick (eqb a.number 1) WrongSizes
+    (pick (eqb a.number 2) OutOfRange
+    (pick (eqb a.number 3) Reversed
+    (pick (eqb a.number 4) (NotRising (get_or a.values 0 0))
+    (pick (eqb a.number 5) Held
+    (pick (eqb a.number 6) (NotHeld (get_or a.values 0 0))
+    (pick (eqb a.number 7) Full
+    (pick (eqb a.number 8) NoRoom Damage)))))))
+
+refusal-back : (e : Refusal) → refusal_in (refusal e) ≡ e
+unfolding refusal
+refusal-back WrongSizes = refl
+refusal-back OutOfRange = refl
+refusal-back Reversed = refl
+refusal-back (NotRising place) = refl
+refusal-back Held = refl
+refusal-back (NotHeld visits) = refl
+refusal-back Full = refl
+refusal-back NoRoom = refl
+refusal-back Damage = refl
+
+pub refusal_injective : (a b : Refusal) → refusal a ≡ refusal b → a ≡ b
+refusal_injective a b e = sym (refusal-back a) ∙ (ap refusal_in e ∙ refusal-back b)
+
+number-not_0 : (e : Refusal) → number_of e ≡ 0 → ⊥
+number-not_0 WrongSizes h = cc
+number-not_0 OutOfRange h = cc
+number-not_0 Reversed h = cc
+number-not_0 (NotRising place) h = cc
+number-not_0 Held h = cc
+number-not_0 (NotHeld visits) h = cc
+number-not_0 Full h = cc
+number-not_0 NoRoom h = cc
+number-not_0 Damage h = cc
+
+pub refusal-not_done : (e : Refusal) (vs : List ℕ) → refusal e ≡ done vs → ⊥
+refusal-not_done e vs h =
+    let n : (refusal e).number ≡ 0 = ap (λ (a : Answer ℕ). a.number) h in
+    number-not_0 e (sym (number-refusal e) ∙ n)
