@@ -1,5 +1,6 @@
 -- Slot by slot, each with the keys that go to it, is run by run of the keys: slots do not fall along rising keys, so the keys of
 -- a slot stand together, after those of the slots before, and slots without keys leave the memory as it is. Assumes nothing.
+use Rattle.std.specs.Prelude.{None, Option, Some}
 use mathlib.Core.List.{List, [], ◌∷◌}
 use mathlib.Core.Logic.{⊎_elim}
 use mathlib.Core.Path.{◌≡◌, refl, sym, ap, ◌∙◌}
@@ -23,8 +24,6 @@ use Rattle.pool.specs.Writing.{put_data, put_child}
 use Rattle.pool.specs.declared.Node.{Node}
 use Rattle.build.specs.Building.{Out, out, next, and_then, Builder, with_slots, payloads_to, fill_slot, fill_slots}
 use Rattle.build.specs.Runs.{RunEnd, group_at}
-use Rattle.build.specs.declared.Built.TheVariants.{At, NoRoom}
-use Rattle.build.specs.declared.Built.{Built}
 
 -- the slot of the key at place i
 abbrev pub slot_at : Model → List ℕ → ℕ → ℕ
@@ -128,19 +127,19 @@ module _ (md : Model) where
 
 -- A slot with one key, with several, and then the others.
 module _ (B : Builder) (r q : ℕ) (ps : List ℕ) (m : Mem) where
-  fill_one : (ks : List ℕ) → length ks ≡ 1 → fill_slot B r q ks ps m ≡ out (At r) (with_slots m (put_data m.slots q (get_or ks 0 0) (get_or ps 0 0)))
+  fill_one : (ks : List ℕ) → length ks ≡ 1 → fill_slot B r q ks ps m ≡ out (Some r) (with_slots m (put_data m.slots q (get_or ks 0 0) (get_or ps 0 0)))
   unfolding fill_slot
   fill_one [] e = absurd (omega arith)
   fill_one (k ∷ []) e = refl
   fill_one (k ∷ j ∷ ks) e = absurd (omega arith)
 
-  through_group : (b : Built) (x : Mem)
-      → next b x (λ c m'. out (At r) (with_slots m' (put_child m'.slots q c)))
-      ≡ and_then (next b x (λ c m'. out (At c) (with_slots m' (put_child m'.slots q c)))) (λ c m'. out (At r) m')
-  through_group (At c) x = refl
-  through_group NoRoom x = refl
+  through_group : (b : Option ℕ) (x : Mem)
+      → next b x (λ c m'. out (Some r) (with_slots m' (put_child m'.slots q c)))
+      ≡ and_then (next b x (λ c m'. out (Some c) (with_slots m' (put_child m'.slots q c)))) (λ c m'. out (Some r) m')
+  through_group (Some c) x = refl
+  through_group None x = refl
 
-  fill_several : (ks : List ℕ) → 2 ≤ length ks → fill_slot B r q ks ps m ≡ and_then (group_at B q ks ps m) (λ c m'. out (At r) m')
+  fill_several : (ks : List ℕ) → 2 ≤ length ks → fill_slot B r q ks ps m ≡ and_then (group_at B q ks ps m) (λ c m'. out (Some r) m')
   unfolding fill_slot group_at
   fill_several [] h = absurd (omega arith)
   fill_several (k ∷ []) h = absurd (omega arith)
@@ -183,7 +182,7 @@ module _ (B : Builder) (r : ℕ) (n : Node) (ks ps : List ℕ) (h : Rising ks) (
     rest = let e : md.l - 0 ≡ md.l = omega arith in rw e;
   }
 
-  pub filled_end : (a : ℕ) (m : Mem) (whole : Out) → Filled B r n ks ps a m whole → length ks ≤ a → out (At r) m ≡ whole
+  pub filled_end : (a : ℕ) (m : Mem) (whole : Out) → Filled B r n ks ps a m whole → length ks ≤ a → out (Some r) m ≡ whole
   unfolding fill_slots
   filled_end a m whole f le =
       let s = f.slot in
@@ -241,18 +240,18 @@ module _ (B : Builder) (r : ℕ) (n : Node) (ks ps : List ℕ) (h : Rising ks) (
         let z : a + 0 ≡ a = omega arith in
         let k0 : get_or keys 0 0 ≡ get_or ks a 0 = rw z at (get_or-part ks a b 0 (omega arith)) in
         let p0 : get_or payloads 0 0 ≡ get_or ps a 0 = rw z at (get_or-part ps a b 0 (omega arith)) in
-        let d : fill_slot B r (n.start + t) keys payloads m ≡ out (At r) (with_slots m (put_data m.slots (n.start + t) (get_or keys 0 0) (get_or payloads 0 0)))
+        let d : fill_slot B r (n.start + t) keys payloads m ≡ out (Some r) (with_slots m (put_data m.slots (n.start + t) (get_or keys 0 0) (get_or payloads 0 0)))
         = fill_one B r (n.start + t) payloads m keys (length_part ks a b within ∙ one) in
         filled_next m' (rw e (sym (turn ∙ rw (d, k0, p0))))
 
     module _ (several : b - a ≡ 1 → ⊥) (some : a < b) where
-      by_group : fill_slot B r (n.start + t) keys payloads m ≡ and_then (group_at B (n.start + t) keys payloads m) (λ c m'. out (At r) m')
+      by_group : fill_slot B r (n.start + t) keys payloads m ≡ and_then (group_at B (n.start + t) keys payloads m) (λ c m'. out (Some r) m')
       by_group =
           let within : b ≤ length ks = rw eb (before_within md (t + 1) ks) in
           fill_several B r (n.start + t) payloads m keys (rw (length_part ks a b within) (omega (arith, several)))
 
-      pub filled_group : (c : ℕ) (m' : Mem) → out (At c) m' ≡ group_at B (n.start + t) keys payloads m → Filled B r n ks ps b m' whole
+      pub filled_group : (c : ℕ) (m' : Mem) → out (Some c) m' ≡ group_at B (n.start + t) keys payloads m → Filled B r n ks ps b m' whole
       filled_group c m' e = filled_next m' (sym (turn ∙ rw (by_group, ← e)))
 
-      pub filled_full : (m' : Mem) → out NoRoom m' ≡ group_at B (n.start + t) keys payloads m → out NoRoom m' ≡ whole
+      pub filled_full : (m' : Mem) → out None m' ≡ group_at B (n.start + t) keys payloads m → out None m' ≡ whole
       filled_full m' e = sym (turn ∙ rw (by_group, ← e))

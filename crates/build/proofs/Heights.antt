@@ -1,5 +1,6 @@
 -- How deep a build is (document 01, "A built tree has at most H(n) nodes on a path"), and that as many levels as that are enough:
 -- with more the sizes, the depth and the build itself stay what they are. Assumes nothing.
+use Rattle.std.specs.Prelude.{None, Option, Some}
 use mathlib.Core.List.{List, [], ◌∷◌}
 use mathlib.Core.Logic.{⊎_elim}
 use mathlib.Core.Path.{◌≡◌, refl, ap}
@@ -22,8 +23,6 @@ use Rattle.pool.specs.Memory.{Mem}
 use Rattle.pool.specs.declared.Node.{Node}
 use Rattle.build.specs.Building.{Out, next, and_then, Builder, payloads_to, lowest_record, lowest_slots, fill_slot, fill_slots, node_on, node_with, build}
 use Rattle.build.specs.Sizes.{of_group, sizes_under, sizes_of, depth_under, depth_of}
-use Rattle.build.specs.declared.Built.{Built}
-use Rattle.build.specs.declared.Built.TheVariants.{At, NoRoom}
 use Rattle.build.proofs.NodeSizes.{of_group_in}
 
 -- one level down: the several keys of one slot
@@ -109,9 +108,9 @@ depth_enough (suc d) (suc e) ks r a b =
     (model_of ks).l 0)
 
 -- two builders that agree on the several keys of every slot
-next-same : (b : Built) (m : Mem) (f g : ℕ → Mem → Out) → ((r : ℕ) (n : Mem) → f r n ≡ g r n) → next b m f ≡ next b m g
-next-same (At r) m f g h = h r m
-next-same NoRoom m f g h = refl
+next-same : (b : Option ℕ) (m : Mem) (f g : ℕ → Mem → Out) → ((r : ℕ) (n : Mem) → f r n ≡ g r n) → next b m f ≡ next b m g
+next-same (Some r) m f g h = h r m
+next-same None m f g h = refl
 
 then_same : (o : Out) (f g : ℕ → Mem → Out) → ((r : ℕ) (n : Mem) → f r n ≡ g r n) → and_then o f ≡ and_then o g
 then_same o f g h = next-same o.built o.memory f g h

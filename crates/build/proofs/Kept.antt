@@ -1,5 +1,6 @@
 -- What every build keeps, whatever the memory: the lengths of the lists, the marks already made and every word of what is marked used; and
 -- that the record it answers is one of the table's. Laws of the definitions alone. Assumes nothing.
+use Rattle.std.specs.Prelude.{None, Option, Some}
 use mathlib.Core.Bool.{true, false}
 use mathlib.Core.List.{List, [], ◌∷◌}
 use mathlib.Core.Logic.{◌⊎◌, inl, inr, ⊎_elim}
@@ -27,8 +28,6 @@ use Rattle.pool.proofs.RecordStores.{length-put_node, put_node-other}
 use Rattle.pool.proofs.RunStores.{length-zero_run, zero_run_outside}
 use Rattle.pool.proofs.SlotStores.{length-put_data, length-put_child, put_data-other, put_child-other}
 use Rattle.build.specs.Building.{Out, out, next, and_then, Builder, with_slots, lowest_record, lowest_slots, place_node, payloads_to, fill_slot, fill_slots, node_on, node_with, build}
-use Rattle.build.specs.declared.Built.TheVariants.{At, NoRoom}
-use Rattle.build.specs.declared.Built.{Built}
 
 -- a used place stays used when another is marked, or a run
 pub mark-keeps : (u : List ℕ) (p q : ℕ) → used_at u q ≡ true → used_at (mark_at u p) q ≡ true
@@ -94,9 +93,9 @@ BuilderGrows B = (ks ps : List ℕ) (m : Mem) → Grows m (B ks ps m).memory
 -- what is built in a memory x that m grew to: m grows to all that it leaves
 module _ (B : Builder) (b : BuilderGrows B) (m : Mem) where
   -- one after the other
-  next_grows : (w : Built) (x : Mem) (f : ℕ → Mem → Out) → Grows m x → ((r : ℕ) (y : Mem) → Grows m y → Grows m (f r y).memory) → Grows m (next w x f).memory
-  next_grows (At r) x f g h = h r x g
-  next_grows NoRoom x f g h = g
+  next_grows : (w : Option ℕ) (x : Mem) (f : ℕ → Mem → Out) → Grows m x → ((r : ℕ) (y : Mem) → Grows m y → Grows m (f r y).memory) → Grows m (next w x f).memory
+  next_grows (Some r) x f g h = h r x g
+  next_grows None x f g h = g
 
   then_grows : (o : Out) (f : ℕ → Mem → Out) → Grows m o.memory → ((r : ℕ) (y : Mem) → Grows m y → Grows m (f r y).memory) → Grows m (and_then o f).memory
   then_grows o f g h = next_grows o.built o.memory f g h
@@ -108,7 +107,7 @@ module _ (B : Builder) (b : BuilderGrows B) (m : Mem) where
   slot_grows r q free (k ∷ []) ps x g =
       grows_slot_stored m x g q free _ (length-put_data x.slots q k (get_or ps 0 0)) (put_data-other x.slots q k (get_or ps 0 0))
   slot_grows r q free (k ∷ j ∷ ks) ps x g =
-      then_grows (B (k ∷ j ∷ ks) ps x) (λ c y. out (At r) (with_slots y (put_child y.slots q c)))
+      then_grows (B (k ∷ j ∷ ks) ps x) (λ c y. out (Some r) (with_slots y (put_child y.slots q c)))
       (grows_both m x (B (k ∷ j ∷ ks) ps x).memory g (b (k ∷ j ∷ ks) ps x))
       (λ c y h. grows_slot_stored m y h q free _ (length-put_child y.slots q c) (put_child-other y.slots q c))
 
@@ -165,15 +164,15 @@ module _ (depth : ℕ) (ks ps : List ℕ) (m : Mem) where
   build-keeps-used = (build-keeps depth ks ps m).marks
 
 -- a build of slots answers its own node, or that there was no room
-abbrev Answers : ℕ → Built → Type 0
-Answers r b = (x : ℕ) → b ≡ At x → x ≡ r
+abbrev Answers : ℕ → Option ℕ → Type 0
+Answers r b = (x : ℕ) → b ≡ Some x → x ≡ r
 
-no_room-answers : (r : ℕ) → Answers r NoRoom
+no_room-answers : (r : ℕ) → Answers r None
 no_room-answers r x e = let z : ◌≡◌ {A = ℕ} 0 1 = cc in absurd (omega arith)
 
-next-answers : (r : ℕ) (b : Built) (m : Mem) (f : ℕ → Mem → Out) → ((c : ℕ) (x : Mem) → Answers r (f c x).built) → Answers r (next b m f).built
-next-answers r (At c) m f g = g c m
-next-answers r NoRoom m f g = no_room-answers r
+next-answers : (r : ℕ) (b : Option ℕ) (m : Mem) (f : ℕ → Mem → Out) → ((c : ℕ) (x : Mem) → Answers r (f c x).built) → Answers r (next b m f).built
+next-answers r (Some c) m f g = g c m
+next-answers r None m f g = no_room-answers r
 
 slots-answer : (B : Builder) (r : ℕ) (node : Node) (n s : ℕ) (ks ps : List ℕ) (m : Mem) → Answers r (fill_slots B r node n s ks ps m).built
 unfolding fill_slots
@@ -187,16 +186,16 @@ unfolding node_on
 on_answers B r md Nowhere ks ps m = no_room-answers r
 on_answers B r md (RunAt s) ks ps m = slots-answer B r (record { model = md; start = s }) md.l 0 ks ps _
 
-node-within : (B : Builder) (ks ps : List ℕ) (m : Mem) (r : ℕ) → (node_with B ks ps m).built ≡ At r → r < records_in m.nodes
+node-within : (B : Builder) (ks ps : List ℕ) (m : Mem) (r : ℕ) → (node_with B ks ps m).built ≡ Some r → r < records_in m.nodes
 unfolding node_with
 node-within B ks ps m r e =
     both (ltb (lowest_record m) (records_in m.nodes))
     (λ t.
     let d : r ≡ lowest_record m = on_answers B (lowest_record m) (model_of ks) (lowest_slots m (model_of ks).l) ks ps m r (rw t at e) in
     omega (arith, ltb-true (lowest_record m) (records_in m.nodes) t))
-    (λ t. let d : NoRoom ≡ At r = rw t at e in let z : ◌≡◌ {A = ℕ} 0 1 = cc in absurd (omega arith))
+    (λ t. let d : None ≡ Some r = rw t at e in let z : ◌≡◌ {A = ℕ} 0 1 = cc in absurd (omega arith))
 
-pub build-within : (depth : ℕ) (ks ps : List ℕ) (m : Mem) (r : ℕ) → (build depth ks ps m).built ≡ At r → r < records_in m.nodes
+pub build-within : (depth : ℕ) (ks ps : List ℕ) (m : Mem) (r : ℕ) → (build depth ks ps m).built ≡ Some r → r < records_in m.nodes
 unfolding build
 build-within zero ks ps m r e = let z : ◌≡◌ {A = ℕ} 0 1 = cc in absurd (omega arith)
 build-within (suc depth) ks ps m r e = node-within (build depth) ks ps m r e

@@ -1,5 +1,6 @@
 -- One level of the tree: without fuel or places there is no room, and with them the slots of the new node are filled, its children
 -- built with one level less. Assumes nothing.
+use Rattle.std.specs.Prelude.{None}
 use mathlib.Core.List.{List}
 use mathlib.Core.Path.{◌≡◌, refl, sym, ◌∙◌}
 use Prim.Native.Nat.{ℕ, suc, ◌-◌, ◌<◌, ◌≤◌}
@@ -14,14 +15,13 @@ use Rattle.model.specs.declared.Model.{Model}
 use Rattle.pool.specs.Memory.{Mem, records_in}
 use Rattle.build.specs.Building.{Out, out, Builder, lowest_record, lowest_slots, place_node, fill_slots, node_on, node_with, build}
 use Rattle.build.specs.Runs.{first_slot, place_on, place_for, placed_in}
-use Rattle.build.specs.declared.Built.TheVariants.{NoRoom}
 use Rattle.build.specs.declared.Place.{Place}
 use Rattle.build.specs.declared.Placed.TheVariants.{Here, Nowhere as NoPlace}
 use Rattle.build.specs.declared.Placed.{Placed}
 
 -- what a node is, by its places
 on_place : Builder → List ℕ → List ℕ → Mem → Placed → Out
-on_place B ks ps m NoPlace = out NoRoom m
+on_place B ks ps m NoPlace = out None m
 on_place B ks ps m (Here p) = fill_slots B p.record p.node p.node.model.l 0 ks ps (place_node m p.record p.node (length ks))
 
 by_run : (B : Builder) (r f : ℕ) (md : Model) (w : Run) (ks ps : List ℕ) (m : Mem) → node_on B r md w ks ps m ≡ on_place B ks ps m (place_on r md f w)
@@ -37,7 +37,7 @@ by_place B ks ps m =
     (λ e. rw e)
 
 module _ (f : ℕ) (ks ps : List ℕ) (m : Mem) where
-  pub build_no_fuel : f < 1 → out NoRoom m ≡ build f ks ps m
+  pub build_no_fuel : f < 1 → out None m ≡ build f ks ps m
   unfolding build
   build_no_fuel h = let e : f ≡ 0 = omega arith in rw e
 
@@ -46,7 +46,7 @@ module _ (f : ℕ) (ks ps : List ℕ) (m : Mem) where
   build_level h = let e : f ≡ suc (f - 1) = omega arith in rw e (let d : suc (f - 1) - 1 ≡ f - 1 = omega arith in rw d)
 
   module _ (some : 1 ≤ f) (after : Mem) where
-    pub build-nowhere : (p : Placed) → p ≡ place_for m (model_of ks) → after ≡ placed_in m p (length ks) → p ≡ NoPlace → out NoRoom after ≡ build f ks ps m
+    pub build-nowhere : (p : Placed) → p ≡ place_for m (model_of ks) → after ≡ placed_in m p (length ks) → p ≡ NoPlace → out None after ≡ build f ks ps m
     unfolding on_place placed_in
     build-nowhere p e q n =
         let d : after ≡ m = rw n at q in

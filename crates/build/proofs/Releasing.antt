@@ -1,5 +1,6 @@
 -- Releasing a subtree: that it keeps every list's length and makes no mark, what is left of a good record afterwards (zeros, and no
 -- mark), and the turns and exits of the loop that does it. Laws of the definitions alone. Assumes nothing.
+use Rattle.std.specs.Prelude.{Err, Ok, Result}
 use mathlib.Core.Bool.{false}
 use mathlib.Core.List.{List, [], ◌∷◌, ◌++◌}
 use mathlib.Core.Logic.{inl, inr, ⊎_elim}
@@ -15,18 +16,18 @@ use Rattle.marks.proofs.Marks.{clear-same, clear-other, clear-length}
 use Rattle.marks.proofs.Runs.{clear_run-length, clear_run_in, clear_run-out}
 use Rattle.model.specs.Slots.{slot_of, in_range}
 use Rattle.pool.specs.Memory.{Mem, mem, slot_place, record_words, lo_word, kind_word}
-use Rattle.pool.specs.Reading.{unused_record, node_in, node_fits, node_at, slot_says, slot_at}
+use Rattle.pool.specs.Reading.{node_in, node_fits, node_at, slot_says, slot_at}
 use Rattle.pool.specs.Writing.{zero_record, zero_run}
 use Rattle.pool.specs.declared.Node.{Node}
-use Rattle.pool.specs.declared.Record.{Record}
-use Rattle.pool.specs.declared.Record.TheVariants.{Good, Broken}
 use Rattle.pool.specs.declared.Slot.{Slot}
-use Rattle.pool.specs.declared.Slot.TheVariants.{Null, Data, Child, Broken as BrokenSlot}
+use Rattle.pool.specs.declared.Slot.TheVariants.{Null, Data, Child}
 use Rattle.pool.proofs.Nodes.{good-node, reads_unmarked}
 use Rattle.pool.proofs.RecordStores.{length-zero_record, zero_record-inside}
 use Rattle.pool.proofs.RunStores.{length-zero_run, zero_run-inside}
 use Rattle.build.specs.Hints.{Sized}
 use Rattle.build.specs.Releasing.{drop_node, release_slot, release_slots, release_record, release}
+use Rattle.pool.specs.declared.Rule.{Rule}
+use Rattle.pool.specs.declared.Rule.TheVariants.{UnusedRecord}
 
 -- an unused place stays unused when another is cleared, or a run
 pub clear-keeps_unused : (u : List ℕ) (p q : ℕ) → used_at u q ≡ false → used_at (clear_at u p) q ≡ false
@@ -73,12 +74,12 @@ drop_frees m r n =
     }
 
 module _ (below : Mem → ℕ → Mem) (k : (m : Mem) (r : ℕ) → Frees m (below m r)) where
-  slot_frees : (m : Mem) (s : Slot) → Frees m (release_slot below m s)
+  slot_frees : (m : Mem) (s : Result Slot Rule) → Frees m (release_slot below m s)
   unfolding release_slot
-  slot_frees m Null = frees_same m
-  slot_frees m (Data x) = frees_same m
-  slot_frees m (Child c) = k m c
-  slot_frees m (BrokenSlot c) = frees_same m
+  slot_frees m (Ok Null) = frees_same m
+  slot_frees m (Ok (Data x)) = frees_same m
+  slot_frees m (Ok (Child c)) = k m c
+  slot_frees m (Err c) = frees_same m
 
   slots_free : (node : Node) (n j : ℕ) (m : Mem) → Frees m (release_slots below node n j m)
   unfolding release_slots
@@ -87,12 +88,12 @@ module _ (below : Mem → ℕ → Mem) (k : (m : Mem) (r : ℕ) → Frees m (bel
       let m' = release_slot below m (slot_at m.slots node j) in
       frees_both m m' (release_slots below node n (j + 1) m') (slot_frees m (slot_at m.slots node j)) (slots_free node n (j + 1) m')
 
-  record_frees : (m : Mem) (r : ℕ) (x : Record) → Frees m (release_record below m r x)
+  record_frees : (m : Mem) (r : ℕ) (x : Result Node Rule) → Frees m (release_record below m r x)
   unfolding release_record
-  record_frees m r (Good n) =
+  record_frees m r (Ok n) =
       let m' = release_slots below n n.model.l 0 m in
       frees_both m m' (drop_node m' r n) (slots_free n n.model.l 0 m) (drop_frees m' r n)
-  record_frees m r (Broken c) = frees_same m
+  record_frees m r (Err c) = frees_same m
 
 pub release_frees : (depth : ℕ) (m : Mem) (r : ℕ) → Frees m (release depth m r)
 unfolding release
@@ -124,11 +125,11 @@ module _ (depth : ℕ) (m : Mem) (r : ℕ) where
   release-sized = frees_sized m (release depth m r) (release_frees depth m r)
 
   -- a record that is not good is passed over
-  pub release-broken : (c : ℕ) → node_at m r ≡ Broken c → release (suc depth) m r ≡ m
+  pub release-broken : (c : ℕ) → node_at m r ≡ Err c → release (suc depth) m r ≡ m
   unfolding release release_record
   release-broken c e = rw e
 
-  module _ (n : Node) (good : node_at m r ≡ Good n) where
+  module _ (n : Node) (good : node_at m r ≡ Ok n) where
     pub release-good : release (suc depth) m r ≡ drop_node (release_slots (release depth) n n.model.l 0 m) r n
     unfolding release release_record
     release-good = rw good
@@ -153,7 +154,7 @@ module _ (depth : ℕ) (m : Mem) (r : ℕ) where
     released_run_zero i a b = rw release-good (zero_run-inside _ n.start n.model.l i a b)
 
     -- so a second release passes it over
-    pub released_unread : node_at (release (suc depth) m r) r ≡ Broken unused_record
+    pub released_unread : node_at (release (suc depth) m r) r ≡ Err UnusedRecord
     released_unread =
         let e = (release_frees (suc depth) m r).nodes in
         reads_unmarked (release (suc depth) m r) r (rw e (good-node m r n good).inside) released_gone
@@ -179,15 +180,15 @@ left-sized h z = record {
   slots = rw h.slots z.slots;
 }
 
-other-slot : (below : Mem → ℕ → Mem) (m : Mem) (s : Slot) → ((c : ℕ) → s ≡ Child c → ⊥) → release_slot below m s ≡ m
+other-slot : (below : Mem → ℕ → Mem) (m : Mem) (s : Result Slot Rule) → ((c : ℕ) → s ≡ Ok (Child c) → ⊥) → release_slot below m s ≡ m
 unfolding release_slot
-other-slot below m Null none = refl
-other-slot below m (Data x) none = refl
-other-slot below m (Child c) none = absurd (none c refl)
-other-slot below m (BrokenSlot c) none = refl
+other-slot below m (Ok Null) none = refl
+other-slot below m (Ok (Data x)) none = refl
+other-slot below m (Ok (Child c)) none = absurd (none c refl)
+other-slot below m (Err c) none = refl
 
 -- a turn: slot j, read in the memory as it is now
-module _ {depth : ℕ} {n : Node} {j : ℕ} {start m : Mem} (h : Left depth n j start m) (here : j < n.model.l) (s : Slot) (reads : s ≡ slot_at m.slots n j) where
+module _ {depth : ℕ} {n : Node} {j : ℕ} {start m : Mem} (h : Left depth n j start m) (here : j < n.model.l) (s : Result Slot Rule) (reads : s ≡ slot_at m.slots n j) where
   left_step : (m' : Mem) → m' ≡ release_slot (release depth) m s → Frees m m' → Left depth n (j + 1) start m'
   unfolding release_slots
   left_step m' e k =
@@ -201,11 +202,11 @@ module _ {depth : ℕ} {n : Node} {j : ℕ} {start m : Mem} (h : Left depth n j 
         left = rw (e, reads) g;
       }
 
-  pub left-child : (c : ℕ) (m' : Mem) → s ≡ Child c → m' ≡ release depth m c → Left depth n (j + 1) start m'
+  pub left-child : (c : ℕ) (m' : Mem) → s ≡ Ok (Child c) → m' ≡ release depth m c → Left depth n (j + 1) start m'
   unfolding release_slot
   left-child c m' q e = left_step m' (rw (q, e)) (rw e (release_frees depth m c))
 
-  pub left_other : ((c : ℕ) → s ≡ Child c → ⊥) → Left depth n (j + 1) start m
+  pub left_other : ((c : ℕ) → s ≡ Ok (Child c) → ⊥) → Left depth n (j + 1) start m
   left_other none = left_step m (sym (other-slot (release depth) m s none)) (frees_same m)
 
 -- the exits: no fuel, a record that is not good, and the end of the slots
@@ -214,14 +215,14 @@ module _ (fuel : ℕ) (m : Mem) (r : ℕ) where
   unfolding release
   ends_no_fuel h = let e : fuel ≡ 0 = omega arith in rw e
 
-  module _ (some : 1 ≤ fuel) (x : Record) (reads : x ≡ node_at m r) where
+  module _ (some : 1 ≤ fuel) (x : Result Node Rule) (reads : x ≡ node_at m r) where
     fueled : fuel ≡ suc (fuel - 1)
     fueled = omega arith
 
-    pub ends-broken : (c : ℕ) → x ≡ Broken c → m ≡ release fuel m r
+    pub ends-broken : (c : ℕ) → x ≡ Err c → m ≡ release fuel m r
     ends-broken c e = rw fueled (sym (release-broken (fuel - 1) m r c (sym reads ∙ e)))
 
-    pub ends_dropped : (n : Node) (j : ℕ) (m' after : Mem) → x ≡ Good n → Left (fuel - 1) n j m m' → n.model.l ≤ j → after ≡ drop_node m' r n → after ≡ release fuel m r
+    pub ends_dropped : (n : Node) (j : ℕ) (m' after : Mem) → x ≡ Ok n → Left (fuel - 1) n j m m' → n.model.l ≤ j → after ≡ drop_node m' r n → after ≡ release fuel m r
     unfolding release_slots
     ends_dropped n j m' after e h done d =
         let z : n.model.l - j ≡ 0 = omega arith in
@@ -229,7 +230,7 @@ module _ (fuel : ℕ) (m : Mem) (r : ℕ) where
         rw fueled (d ∙ ap (λ (y : Mem). drop_node y r n) g ∙ sym (release-good (fuel - 1) m r n (sym reads ∙ e)))
 
 -- By computation: record 0 with slots 0 to 3 leads by its slot 2 to record 1 with slots 4 to 7; record 2 with slots 8 to 11 is another
--- tree. Record 0's tree goes and the other stays.
+-- tree. Result Node Rule 0's tree goes and the other stays.
 record_of : ℕ → List ℕ → List ℕ
 record_of start rest = 10 ∷ 5 ∷ 4 ∷ start ∷ 1 ∷ 1 ∷ 0 ∷ 0 ∷ rest
 

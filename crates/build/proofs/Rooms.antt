@@ -1,6 +1,7 @@
 -- Building succeeds exactly when there is room, and takes the places that first fit over its sizes finds. Where just the first
 -- records and slots are used, as on an empty map, there is room exactly when the sums fit, so there the sums alone decide. Assumes
 -- nothing.
+use Rattle.std.specs.Prelude.{None, Option, Some}
 use mathlib.Core.Bool.{true, false}
 use mathlib.Core.List.{List, [], ◌∷◌, ◌++◌}
 use mathlib.Core.Logic.{inl, inr, ⊎_elim, ◌↔◌}
@@ -31,8 +32,6 @@ use Rattle.pool.specs.declared.Node.{Node}
 use Rattle.build.specs.Building.{Out, out, next, and_then, Builder, with_slots, payloads_to, lowest_record, lowest_slots, place_node, fill_slot, fill_slots, node_on, node_with, build}
 use Rattle.build.specs.Room.{Placed, placed, at_run, place_all, has_room, Prefix}
 use Rattle.build.specs.Sizes.{of_group, sizes_under, sizes_of, total}
-use Rattle.build.specs.declared.Built.{Built}
-use Rattle.build.specs.declared.Built.TheVariants.{At, NoRoom}
 use Rattle.build.proofs.Heights.{child-rising, child_lower}
 
 -- go on where there was room
@@ -71,10 +70,10 @@ module _ (records count : ℕ) where
     map : o.memory.used ≡ p.used
     room : has_room o.built ≡ p.fits
 
-  next_agrees : (b : Built) (m : Mem) (f : ℕ → Mem → Out) (p : Placed) (g : List ℕ → Placed) → Agrees (out b m) p
+  next_agrees : (b : Option ℕ) (m : Mem) (f : ℕ → Mem → Out) (p : Placed) (g : List ℕ → Placed) → Agrees (out b m) p
       → ((r : ℕ) (n : Mem) → Pools n → Agrees (f r n) (g n.used)) → Agrees (next b m f) (place_then p g)
-  next_agrees (At r) m f p g a h = rw (sym a.room, sym a.map) (h r m a.pools)
-  next_agrees NoRoom m f p g a h = rw (sym a.room) (record { pools = a.pools; map = a.map; room = refl })
+  next_agrees (Some r) m f p g a h = rw (sym a.room, sym a.map) (h r m a.pools)
+  next_agrees None m f p g a h = rw (sym a.room) (record { pools = a.pools; map = a.map; room = refl })
 
   then_agrees : (o : Out) (f : ℕ → Mem → Out) (p : Placed) (g : List ℕ → Placed) → Agrees o p
       → ((r : ℕ) (n : Mem) → Pools n → Agrees (f r n) (g n.used)) → Agrees (and_then o f) (place_then p g)
@@ -110,7 +109,7 @@ module _ (records count : ℕ) where
     fill_slot_agrees r q [] ps m h child = record { pools = h; map = refl; room = refl }
     fill_slot_agrees r q (k ∷ []) ps m h child = record { pools = put_data-pools m q k (get_or ps 0 0) h; map = refl; room = refl }
     fill_slot_agrees r q (k ∷ j ∷ ks) ps m h child =
-        subst (λ (p : Placed). Agrees (and_then (B (k ∷ j ∷ ks) ps m) (λ c n. out (At r) (with_slots n (put_child n.slots q c)))) p)
+        subst (λ (p : Placed). Agrees (and_then (B (k ∷ j ∷ ks) ps m) (λ c n. out (Some r) (with_slots n (put_child n.slots q c)))) p)
         (then_all (place_all records count (S (k ∷ j ∷ ks)) m.used))
         (then_agrees (B (k ∷ j ∷ ks) ps m) _ (place_all records count (S (k ∷ j ∷ ks)) m.used) (placed true) (child (omega arith) ps m h)
         (λ c n z. record { pools = put_child-pools n q c z; map = refl; room = refl }))
@@ -166,13 +165,13 @@ module _ (records count : ℕ) where
       (λ s two qs n z. build_agrees d (keys_to (model_of ks) s ks) (child-rising ks r s) (omega (arith, child_lower ks r s two)) qs n z)
       ps m h
 
-has_room_at : (b : Built) → has_room b ≡ true → (r : ℕ) × (b ≡ At r)
-has_room_at (At r) e = (r, refl)
-has_room_at NoRoom e = absurd (true_not_false (sym e))
+has_room_at : (b : Option ℕ) → has_room b ≡ true → (r : ℕ) × (b ≡ Some r)
+has_room_at (Some r) e = (r, refl)
+has_room_at None e = absurd (true_not_false (sym e))
 
-no_room_is : (b : Built) → has_room b ≡ false → b ≡ NoRoom
-no_room_is (At r) e = absurd (true_not_false e)
-no_room_is NoRoom e = refl
+no_room_is : (b : Option ℕ) → has_room b ≡ false → b ≡ None
+no_room_is (Some r) e = absurd (true_not_false e)
+no_room_is None e = refl
 
 -- the sizes of a build over ks, placed on the map of the memory
 abbrev pub placing : ℕ → List ℕ → Mem → Placed
@@ -187,16 +186,16 @@ module _ (d : ℕ) (ks : List ℕ) (rising : Rising ks) (enough : height (length
   pub build-fits : has_room (build d ks ps m).built ≡ (placing d ks m).fits
   build-fits = agreed.room
 
-  pub fits_builds : (placing d ks m).fits ≡ true → (r : ℕ) × ((build d ks ps m).built ≡ At r)
+  pub fits_builds : (placing d ks m).fits ≡ true → (r : ℕ) × ((build d ks ps m).built ≡ Some r)
   fits_builds e = has_room_at (build d ks ps m).built (build-fits ∙ e)
 
-  pub lacks-refuses : (placing d ks m).fits ≡ false → (build d ks ps m).built ≡ NoRoom
+  pub lacks-refuses : (placing d ks m).fits ≡ false → (build d ks ps m).built ≡ None
   lacks-refuses e = no_room_is (build d ks ps m).built (build-fits ∙ e)
 
-  pub builds_fits : (r : ℕ) → (build d ks ps m).built ≡ At r → (placing d ks m).fits ≡ true
+  pub builds_fits : (r : ℕ) → (build d ks ps m).built ≡ Some r → (placing d ks m).fits ≡ true
   builds_fits r e = sym build-fits ∙ ap has_room e
 
-  pub refuses-lacks : (build d ks ps m).built ≡ NoRoom → (placing d ks m).fits ≡ false
+  pub refuses-lacks : (build d ks ps m).built ≡ None → (placing d ks m).fits ≡ false
   refuses-lacks e = sym build-fits ∙ ap has_room e
 
   -- it takes the places that the sizes take, as far as either comes
@@ -373,7 +372,7 @@ module _ (d : ℕ) (ks : List ℕ) (rising : Rising ks) (enough : height (length
   unused = empty_prefix (records_in nodes) (slots_in slots) words mapped
 
   pub empty_builds : length (sizes_of d ks) ≤ records_in nodes → total (sizes_of d ks) ≤ slots_in slots
-      → (r : ℕ) × ((build d ks ps (mem nodes slots (replicate words 0))).built ≡ At r)
+      → (r : ℕ) × ((build d ks ps (mem nodes slots (replicate words 0))).built ≡ Some r)
   empty_builds ha hb =
       fits_builds d ks rising enough ps empty
       (sums_fit (records_in nodes) (slots_in slots) (sizes_of d ks) (replicate words 0) 0 0 unused (omega arith) (omega arith)).0
@@ -386,7 +385,7 @@ module _ (d : ℕ) (ks : List ℕ) (rising : Rising ks) (enough : height (length
       rw (build-used d ks rising enough ps empty, sym e, sym f)
       (sums_fit (records_in nodes) (slots_in slots) (sizes_of d ks) (replicate words 0) 0 0 unused (omega arith) (omega arith)).1
 
-  pub builds_empty : (r : ℕ) → (build d ks ps (mem nodes slots (replicate words 0))).built ≡ At r
+  pub builds_empty : (r : ℕ) → (build d ks ps (mem nodes slots (replicate words 0))).built ≡ Some r
       → (length (sizes_of d ks) ≤ records_in nodes) × (total (sizes_of d ks) ≤ slots_in slots)
   builds_empty r e =
       let h =

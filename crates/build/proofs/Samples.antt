@@ -1,5 +1,6 @@
 -- The build of P4 by computation: root record 0 at slots 0 to 11, children at runs 12 and 16, their keys at slots 1 and 2.
 -- Assumes nothing.
+use Rattle.std.specs.Prelude.{Some}
 use mathlib.Core.List.{List, [], ◌∷◌}
 use mathlib.Core.Path.{◌≡◌, refl}
 use Prim.Native.Nat.{ℕ, ◌+◌, ◌*◌, ◌^◌, ◌-◌}
@@ -12,7 +13,6 @@ use Rattle.pool.specs.Memory.{Mem, mem}
 use Rattle.pool.specs.Writing.{put_node, put_data, put_child, zero_run}
 use Rattle.build.specs.Building.{lowest_record, lowest_slots, place_node, payloads_to, fill_slot, fill_slots, node_on, node_with, build, out}
 use Rattle.build.specs.Sizes.{sizes_of, sizes_under, depth_of, depth_under}
-use Rattle.build.specs.declared.Built.TheVariants.{At}
 
 -- 4 records and 20 slots, with junk in the slots
 before : Mem
@@ -30,7 +30,7 @@ after =
     ∷ 0 ∷ 0 ∷ (2 ^ 48 + 10000) ∷ 5 ∷ (2 ^ 48 + 20000) ∷ 6 ∷ 0 ∷ 0 ∷ [])
     ((7 + (2 ^ 20 - 1) * 16) ∷ [])
 
-p4_built : build 3 p4 (1 ∷ 2 ∷ 3 ∷ 4 ∷ 5 ∷ 6 ∷ []) before ≡ out (At 0) after
+p4_built : build 3 p4 (1 ∷ 2 ∷ 3 ∷ 4 ∷ 5 ∷ 6 ∷ []) before ≡ out (Some 0) after
 unfolding before p4 after used_at mark_at mark_run first_from first_unused free_run lowest_from lowest_run slots_for count_at spread_below spread model_at least_from t_of empty_model model_of keys_to slot_of put_node put_data put_child zero_run lowest_record lowest_slots place_node payloads_to fill_slot fill_slots node_on node_with build
 p4_built = refl
 

@@ -1,5 +1,6 @@
 -- What holds whenever the loop over the runs of keys comes to a key, and what each of its turns and exits does to it; and the two
 -- exits of a group. Each law is over plain variables, as the code meets it. Assumes nothing.
+use Rattle.std.specs.Prelude.{None, Option, Some}
 use mathlib.Core.List.{List}
 use mathlib.Core.Path.{◌≡◌, refl, sym, ap, ◌∙◌}
 use Prim.Native.Nat.{ℕ, ◌+◌, ◌-◌, ◌*◌, ◌^◌, ◌<◌, ◌≤◌}
@@ -20,8 +21,6 @@ use Rattle.pool.proofs.SlotStores.{length-put_data, length-put_child}
 use Rattle.build.specs.Building.{Out, out, with_slots, place_node, fill_slots, build}
 use Rattle.build.specs.Hints.{Sized, Hinted, Builds}
 use Rattle.build.specs.Runs.{placed_in, Begins, group_at, Groups}
-use Rattle.build.specs.declared.Built.TheVariants.{At, NoRoom}
-use Rattle.build.specs.declared.Built.{Built}
 use Rattle.build.specs.declared.Grown.{Grown}
 use Rattle.build.specs.declared.Hint.{Hint}
 use Rattle.build.specs.declared.Place.{Place}
@@ -142,7 +141,7 @@ module _ {depth r : ℕ} {node : Node} {ks ps : List ℕ} {a : ℕ} {start m : M
       (rising_part ks a b w.within w.rises, (paid ∙ sym long, (small, (f.sized, (f.hinted, under)))))
 
   module _ (several : b - a ≡ 1 → ⊥) (m' : Mem) (g : Grown) (made : Groups (build depth) (node.start + t) keys payloads m m' g) where
-    pub turn_group : (c : ℕ) → g.built ≡ At c → length m'.nodes ≡ length m.nodes → length m'.slots ≡ length m.slots
+    pub turn_group : (c : ℕ) → g.built ≡ Some c → length m'.nodes ≡ length m.nodes → length m'.slots ≡ length m.slots
         → length m'.used ≡ length m.used
         → Filling depth r node ks ps b start m' g.hint
     turn_group c e ln ls lu =
@@ -162,13 +161,13 @@ module _ {depth r : ℕ} {node : Node} {ks ps : List ℕ} {a : ℕ} {start m : M
 
     -- the exit where the group has no room
     pub ends-full : (fuel : ℕ) (before : Mem) → fill_slots (build depth) r node node.model.l 0 ks ps start ≡ build fuel ks ps before
-        → g.built ≡ NoRoom
+        → g.built ≡ None
         → Builds fuel ks ps before m' g
     ends-full fuel before whole e =
-        let full : out NoRoom m' ≡ fill_slots (build depth) r node node.model.l 0 ks ps start
+        let full : out None m' ≡ fill_slots (build depth) r node node.model.l 0 ks ps start
         = filled_full (build depth) r node ks ps w.rises w.filling.range w.same a t b m _ w.filling.filled w.here w.slot ends
         several w.more m' (rw e at made.is) in
-        record { is = ap (λ (y : Built). out y m') e ∙ full ∙ whole; hint = made.hint }
+        record { is = ap (λ (y : Option ℕ). out y m') e ∙ full ∙ whole; hint = made.hint }
 
 -- the exit at the end of the keys
 pub ends_filled : {depth r : ℕ} {node : Node} {ks ps : List ℕ} {a : ℕ} {start m : Mem} {hint : Hint} → Filling depth r node ks ps a start m hint
@@ -176,7 +175,7 @@ pub ends_filled : {depth r : ℕ} {node : Node} {ks ps : List ℕ} {a : ℕ} {st
     → length ps ≡ length ks
     → length ks ≤ a
     → (fuel : ℕ) (before : Mem) → fill_slots (build depth) r node node.model.l 0 ks ps start ≡ build fuel ks ps before
-    → Builds fuel ks ps before m (record { built = At r; hint = hint })
+    → Builds fuel ks ps before m (record { built = Some r; hint = hint })
 ends_filled {depth} {r} {node} {ks} {ps} {a} {start} {m} f rises same le fuel before whole = record {
   is = filled_end (build depth) r node ks ps rises f.range same a m _ f.filled le ∙ whole;
   hint = f.hinted;
@@ -184,11 +183,11 @@ ends_filled {depth} {r} {node} {ks} {ps} {a} {start} {m} f rises same le fuel be
 
 -- The exits before the loop: no fuel, and no places; and the node that was begun, which the loop fills.
 module _ (fuel : ℕ) (ks ps : List ℕ) (before : Mem) where
-  pub ends_no_fuel : (hint : Hint) → fuel < 1 → Hinted before hint → Builds fuel ks ps before before (record { built = NoRoom; hint = hint })
+  pub ends_no_fuel : (hint : Hint) → fuel < 1 → Hinted before hint → Builds fuel ks ps before before (record { built = None; hint = hint })
   ends_no_fuel hint h k = record { is = build_no_fuel fuel ks ps before h; hint = k }
 
   module _ (some : 1 ≤ fuel) (begun : Mem) (p : Placed) (b : Begins ks before begun p) where
-    pub ends_nowhere : (hint : Hint) → p ≡ NoPlace → Hinted before hint → Builds fuel ks ps before begun (record { built = NoRoom; hint = hint })
+    pub ends_nowhere : (hint : Hint) → p ≡ NoPlace → Hinted before hint → Builds fuel ks ps before begun (record { built = None; hint = hint })
     unfolding placed_in
     ends_nowhere hint e k =
         let q : begun ≡ before = rw e at b.memory in
@@ -200,20 +199,20 @@ module _ (fuel : ℕ) (ks ps : List ℕ) (before : Mem) where
 
 -- The exits of a group: g is what the build of its child gave.
 module _ (fuel q : ℕ) (ks ps : List ℕ) (before m : Mem) (g : Grown) (made : Builds fuel ks ps before m g) where
-  pub child_small : (c : ℕ) → g.built ≡ At c → Sized before → c < 2 ^ 48
+  pub child_small : (c : ℕ) → g.built ≡ Some c → Sized before → c < 2 ^ 48
   child_small c e z =
-      let d : (build fuel ks ps before).built ≡ At c = sym (ap (λ (o : Out). o.built) made.is) ∙ e in
+      let d : (build fuel ks ps before).built ≡ Some c = sym (ap (λ (o : Out). o.built) made.is) ∙ e in
       omega (arith, build-within fuel ks ps before c d, z.records)
 
-  pub group_child : (c : ℕ) (s : List ℕ) → g.built ≡ At c → s ≡ put_child m.slots q c → Groups (build fuel) q ks ps before (with_slots m s) g
+  pub group_child : (c : ℕ) (s : List ℕ) → g.built ≡ Some c → s ≡ put_child m.slots q c → Groups (build fuel) q ks ps before (with_slots m s) g
   unfolding group_at
   group_child c s e d =
       let long : length s ≡ length m.slots = rw d (length-put_child m.slots q c) in
-      let i : out (At c) m ≡ build fuel ks ps before = rw e at made.is in
+      let i : out (Some c) m ≡ build fuel ks ps before = rw e at made.is in
       record { is = rw (← i, e, d); hint = hinted_slots m s g.hint long made.hint }
 
-  pub group_full : g.built ≡ NoRoom → Groups (build fuel) q ks ps before m g
+  pub group_full : g.built ≡ None → Groups (build fuel) q ks ps before m g
   unfolding group_at
   group_full e =
-      let i : out NoRoom m ≡ build fuel ks ps before = rw e at made.is in
+      let i : out None m ≡ build fuel ks ps before = rw e at made.is in
       record { is = rw (← i, e); hint = made.hint }

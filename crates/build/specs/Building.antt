@@ -1,7 +1,7 @@
 -- Building a tree over rising keys (document 01, "From key to slot" and "Where nodes go"): a node takes the lowest unused record
 -- and the lowest run, parent before children, children in slot order, each with its whole subtree before the next. Stated slot
 -- by slot; the code goes by runs of keys. Definitions only.
-use Rattle.std.specs.Prelude.{List, [], ◌∷◌, ℕ, zero, suc, ◌+◌, ltb, eqb, length, get_or}
+use Rattle.std.specs.Prelude.{List, [], ◌∷◌, ℕ, zero, suc, ◌+◌, ltb, eqb, length, get_or, None, Option, Some}
 use Rattle.laws.specs.Pick.{pick}
 use Rattle.marks.specs.Used.{mark_at, mark_run, first_unused, lowest_run}
 use Rattle.marks.specs.declared.Run.{Run}
@@ -13,21 +13,19 @@ use Rattle.model.specs.declared.Model.{Model}
 use Rattle.pool.specs.Memory.{Mem, mem, records_in, slots_in, slot_place}
 use Rattle.pool.specs.Writing.{put_node, put_data, put_child, zero_run}
 use Rattle.pool.specs.declared.Node.{Node}
-use Rattle.build.specs.declared.Built.{Built}
-use Rattle.build.specs.declared.Built.TheVariants.{At, NoRoom}
 
 -- what a build leaves: its top node's record, or that there was no room; and the memory
 pub record Out : Type 0 where
-  pub built : Built
+  pub built : Option ℕ
   pub memory : Mem
 
-abbrev pub out : Built → Mem → Out
+abbrev pub out : Option ℕ → Mem → Out
 out b m = record { built = b; memory = m }
 
 -- go on where there was room
-abbrev pub next : Built → Mem → (ℕ → Mem → Out) → Out
-next (At r) m f = f r m
-next NoRoom m f = out NoRoom m
+abbrev pub next : Option ℕ → Mem → (ℕ → Mem → Out) → Out
+next (Some r) m f = f r m
+next None m f = out None m
 
 abbrev pub and_then : Out → (ℕ → Mem → Out) → Out
 and_then o f = next o.built o.memory f
@@ -64,21 +62,21 @@ Builder = List ℕ → List ℕ → Mem → Out
 -- slot q of the new node r: "One key at a slot makes it DATA, none NULL. More than one makes it NODE, whose child is built over just
 -- those keys", by B
 unfoldable pub fill_slot : Builder → ℕ → ℕ → List ℕ → List ℕ → Mem → Out
-fill_slot B r q [] ps m = out (At r) m
-fill_slot B r q (k ∷ []) ps m = out (At r) (with_slots m (put_data m.slots q k (get_or ps 0 0)))
+fill_slot B r q [] ps m = out (Some r) m
+fill_slot B r q (k ∷ []) ps m = out (Some r) (with_slots m (put_data m.slots q k (get_or ps 0 0)))
 fill_slot B r q (k ∷ j ∷ ks) ps m =
-    and_then (B (k ∷ j ∷ ks) ps m) (λ c m'. out (At r) (with_slots m' (put_child m'.slots q c)))
+    and_then (B (k ∷ j ∷ ks) ps m) (λ c m'. out (Some r) (with_slots m' (put_child m'.slots q c)))
 
 -- n slots of the new node r, from slot s on, each with the keys that go to it
 unfoldable pub fill_slots : Builder → ℕ → Node → ℕ → ℕ → List ℕ → List ℕ → Mem → Out
-fill_slots B r node zero s ks ps m = out (At r) m
+fill_slots B r node zero s ks ps m = out (Some r) m
 fill_slots B r node (suc n) s ks ps m =
     and_then (fill_slot B r (node.start + s) (keys_to node.model s ks) (payloads_to node.model s ks ps) m)
     (λ r' m'. fill_slots B r node n (s + 1) ks ps m')
 
 -- one node, whose children B builds; "one of the two lacking is enough"
 unfoldable pub node_on : Builder → ℕ → Model → Run → Builder
-node_on B r md Nowhere ks ps m = out NoRoom m
+node_on B r md Nowhere ks ps m = out None m
 node_on B r md (RunAt s) ks ps m =
     fill_slots B r (record { model = md; start = s }) md.l 0 ks ps (place_node m r (record { model = md; start = s }) (length ks))
 
@@ -86,9 +84,9 @@ unfoldable pub node_with : Builder → Builder
 node_with B ks ps m =
     pick (ltb (lowest_record m) (records_in m.nodes))
     (node_on B (lowest_record m) (model_of ks) (lowest_slots m (model_of ks).l) ks ps m)
-    (out NoRoom m)
+    (out None m)
 
 -- a tree of at most `depth` levels
 unfoldable pub build : ℕ → Builder
-build zero ks ps m = out NoRoom m
+build zero ks ps m = out None m
 build (suc depth) ks ps m = node_with (build depth) ks ps m

@@ -1,13 +1,11 @@
 -- Room for a build (document 01, "Where nodes go"): sizes placed one after the other by first fit, each at the lowest unused
 -- record and the lowest run, on the map of used places alone. "There is no room exactly when some node of the build finds neither
 -- record or run at its turn; one of the two lacking is enough." Definitions only.
-use Rattle.std.specs.Prelude.{Bool, true, false, List, [], ◌∷◌, ◌≡◌, ℕ, ◌+◌, ◌*◌, ◌<◌, ◌≤◌, ltb, length}
+use Rattle.std.specs.Prelude.{Bool, true, false, List, [], ◌∷◌, ◌≡◌, ℕ, ◌+◌, ◌*◌, ◌<◌, ◌≤◌, ltb, length, None, Option, Some}
 use Rattle.laws.specs.Pick.{pick}
 use Rattle.marks.specs.Used.{used_at, mark_at, mark_run, first_unused, lowest_run}
 use Rattle.marks.specs.declared.Run.{Run}
 use Rattle.marks.specs.declared.Run.TheVariants.{At as RunAt, Nowhere}
-use Rattle.build.specs.declared.Built.{Built}
-use Rattle.build.specs.declared.Built.TheVariants.{At, NoRoom}
 
 -- what placing leaves: whether every size had its place, and the map as far as it came
 pub record Placed : Type 0 where
@@ -31,9 +29,9 @@ place_all records count (l ∷ ls) u =
     (placed false u)
 
 -- a build that had room
-abbrev pub has_room : Built → Bool
-has_room (At r) = true
-has_room NoRoom = false
+abbrev pub has_room : Option ℕ → Bool
+has_room (Some r) = true
+has_room None = false
 
 -- just the first a records and the first b slots are used
 pub record Prefix (records count : ℕ) (u : List ℕ) (a b : ℕ) : Type 0 where

@@ -1,6 +1,6 @@
 -- The code's way of building, which proofs/Level.antt and proofs/Filter.antt join to Building's: where a node goes, with the hint
 -- for the search after it, where a run of keys that share a slot ends, and one group of keys. Definitions only.
-use Rattle.std.specs.Prelude.{List, ◌≡◌, ℕ, ◌+◌, ◌<◌, ◌≤◌, ltb, length, get_or}
+use Rattle.std.specs.Prelude.{List, ◌≡◌, ℕ, ◌+◌, ◌<◌, ◌≤◌, ltb, length, get_or, Some}
 use Rattle.laws.specs.Pick.{pick}
 use Rattle.marks.specs.Used.{first_unused}
 use Rattle.marks.specs.declared.Run.TheVariants.{At as RunAt, Nowhere}
@@ -12,7 +12,6 @@ use Rattle.pool.specs.Memory.{Mem, records_in, slots_in}
 use Rattle.pool.specs.Writing.{put_child}
 use Rattle.build.specs.Building.{out, and_then, Builder, with_slots, lowest_record, lowest_slots, place_node}
 use Rattle.build.specs.Hints.{Hinted}
-use Rattle.build.specs.declared.Built.TheVariants.{At}
 use Rattle.build.specs.declared.Grown.{Grown}
 use Rattle.build.specs.declared.Placed.TheVariants.{Here, Nowhere as NoPlace}
 use Rattle.build.specs.declared.Placed.{Placed}
@@ -53,7 +52,7 @@ pub record RunEnd (m : Model) (ks : List ℕ) (a b : ℕ) : Type 0 where
 
 -- one group of keys: the child, and slot q that leads to it
 unfoldable pub group_at : Builder → ℕ → Builder
-group_at B q ks ps m = and_then (B ks ps m) (λ c m'. out (At c) (with_slots m' (put_child m'.slots q c)))
+group_at B q ks ps m = and_then (B ks ps m) (λ c m'. out (Some c) (with_slots m' (put_child m'.slots q c)))
 
 -- what a group of the code leaves, and a hint that holds of it
 pub record Groups (B : Builder) (q : ℕ) (ks ps : List ℕ) (before after : Mem) (g : Grown) : Type 0 where

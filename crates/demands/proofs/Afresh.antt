@@ -1,5 +1,6 @@
 -- A tree built afresh over a map in memory whose unused places are zero, below some nodes of a path: the tree that document 01
 -- describes, or none where it has no room or would be too deep. Assumes nothing.
+use Rattle.std.specs.Prelude.{None}
 use mathlib.Core.Bool.{Bool, true, false}
 use mathlib.Core.List.{List, [], ◌∷◌}
 use mathlib.Core.Path.{◌≡◌, refl, sym, subst, ap, ◌∙◌}
@@ -10,7 +11,6 @@ use lib.ListN.{length, get_or}
 use borrow.Author.Tests.{ne_eqb, eqb-true, eqb-false, ltb-true, ltb-false, leb-true}
 use Rattle.build.specs.Building.{Out, out, build}
 use Rattle.build.specs.Sizes.{depth_of}
-use Rattle.build.specs.declared.Built.TheVariants.{NoRoom}
 use Rattle.laws.proofs.Tests.{both, true_not_false}
 use Rattle.laws.specs.Keys.{key_bound, Rising}
 use Rattle.laws.specs.Pick.{pick}
@@ -97,7 +97,7 @@ module _ (R S : ℕ) (m : Mem) (fine : Fine R S m) (l : Map) (r : Rises l) (b : 
       subst (λ (x : Map). Agrees R S longest_path m x (grow longest_path R S m.used (keys_of l) (payloads_of l)) (build longest_path (keys_of l) (payloads_of l) m)) (load_of l)
       (grow_agrees R S longest_path m (keys_of l) (payloads_of l) fine (rising_of l r b) (same-long l))
 
-  judge : (w : Grown) (x : Out) (d : ℕ) → DeepAs d w → Agrees R S longest_path m l w x → Agrees R S longest_path m l (within above w) (pick (leb (above + d) longest_path) x (out NoRoom m))
+  judge : (w : Grown) (x : Out) (d : ℕ) → DeepAs d w → Agrees R S longest_path m l w x → Agrees R S longest_path m l (within above w) (pick (leb (above + d) longest_path) x (out None m))
   judge (is null u) x d e a = absurd a
   judge (is (leaf k p) u) x d e a = absurd a
   judge (is (sub t g) u) x d e a = rw (← e) (both (leb (above + depth_b (sub t g)) longest_path) (λ q. rw q a) (λ q. rw q))

@@ -1,5 +1,6 @@
 -- Demand 1 holds. The orders are those of Refusals and Inserts; here is what a refused load, replace, delete or band leaves, by the picks
 -- of each definition, and the theorem. Assumes nothing.
+use Rattle.std.specs.Prelude.{None, Option, Some}
 use mathlib.Core.Bool.{◌&&◌}
 use mathlib.Core.List.{List, map}
 use mathlib.Core.Path.{◌≡◌, refl, ◌∙◌}
@@ -9,8 +10,6 @@ use borrow.Author.Tests.{eqb-true}
 use lib.Dec.{ltb, leb, eqb}
 use lib.ListN.{length, get_or, drop, length-map}
 use lib.Seq.{sets, sets-eq, drop_at}
-use Rattle.build.specs.declared.Built.{Built}
-use Rattle.build.specs.declared.Built.TheVariants.{At as BuiltAt, NoRoom}
 use Rattle.demands.proofs.Inserts.{insert-order, insert-keeps, insert-rebuilt, insert-untouched}
 use Rattle.demands.proofs.Refusals.{answers, pack-order, unpack-order, slot-order, model_order, load-order, lookup-order, replace-order, delete-order, band-order}
 use Rattle.demands.specs.Demand1.{Refuses, Keeps, KeepsOutput, KeepsPast, PassesOn, Demand1}
@@ -39,10 +38,10 @@ use Rattle.walk.specs.declared.Span.TheVariants.{Between}
 
 -- load
 module _ (c : ℕ) (ks ps : List ℕ) (m : Mem) where
-  built-keeps : (b : Built) (after : Mem) → Keeps no_handle m (load_built c (length ks) m b after)
+  built-keeps : (b : Option ℕ) (after : Mem) → Keeps no_handle m (load_built c (length ks) m b after)
   unfolding load_built
-  built-keeps (BuiltAt r) after = λ n. absurd (n refl)
-  built-keeps NoRoom after = λ n. (refl, refl)
+  built-keeps (Some r) after = λ n. absurd (n refl)
+  built-keeps None after = λ n. (refl, refl)
 
   list-keeps : (f : Fault) → Keeps no_handle m (load_list c ks ps m f)
   unfolding load_list load_tree

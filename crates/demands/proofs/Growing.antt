@@ -1,6 +1,7 @@
 -- A build in memory whose unused places are zero gives the placed tree that document 01 describes: memory gains just that tree, its
 -- places are the ones that first fit gives, its keys belong and are the map. Where the tree has no room the build has none. Assumes
 -- nothing.
+use Rattle.std.specs.Prelude.{None, Some}
 use mathlib.Core.List.{List, [], ◌∷◌, ◌++◌}
 use mathlib.Core.Path.{◌≡◌, refl, sym, subst, subst⁻¹, ap, ◌∙◌}
 use native.Mathlib.Nat.{add-zero, zero-add}
@@ -10,7 +11,6 @@ use lib.Dec.{ltb}
 use lib.ListN.{length, length-set}
 use borrow.Author.Tests.{ltb-true}
 use Rattle.build.specs.Building.{Out, out, and_then, Builder, with_slots, lowest_record, lowest_slots, place_node, payloads_to, fill_slot, fill_slots, node_on, node_with, build}
-use Rattle.build.specs.declared.Built.TheVariants.{At, NoRoom}
 use Rattle.laws.proofs.Tests.{both}
 use Rattle.laws.specs.Keys.{Rising}
 use Rattle.marks.specs.Used.{first_unused, lowest_run, mark_at, mark_run}
@@ -89,8 +89,8 @@ pub record BuiltAs (R S n : ℕ) (m : Mem) (l : Map) (h : Head) (g : Forest) (o 
 abbrev pub Agrees : ℕ → ℕ → ℕ → Mem → Map → Grown → Out → Type 0
 Agrees R S n m l (is null u) x = ⊥
 Agrees R S n m l (is (leaf k p) u) x = ⊥
-Agrees R S n m l (is (sub h g) u) x = (x.built ≡ At h.at) × (x.memory.used ≡ u) × BuiltAs R S n m l h g x.memory
-Agrees R S n m l no_room x = x.built ≡ NoRoom
+Agrees R S n m l (is (sub h g) u) x = (x.built ≡ Some h.at) × (x.memory.used ≡ u) × BuiltAs R S n m l h g x.memory
+Agrees R S n m l no_room x = x.built ≡ None
 
 abbrev pub Grows : ℕ → ℕ → ℕ → Builder → Grower → Type 0
 Grows R S n B G = (m : Mem) (ks ps : List ℕ) → Fine R S m → Rising ks → length ps ≡ length ks → Agrees R S n m (bulkload ks ps) (G m.used ks ps) (B ks ps m)
@@ -103,8 +103,8 @@ pub record SlotAs (R S n : ℕ) (m : Mem) (l : Map) (f : Frame) (b : Branch) (o 
   pub deep : depth_b b ≤ n
 
 abbrev SlotAgrees : ℕ → ℕ → ℕ → Mem → Map → Frame → Grown → Out → Type 0
-SlotAgrees R S n m l f (is b u) x = (x.built ≡ At f.head.at) × (x.memory.used ≡ u) × SlotAs R S n m l f b x.memory
-SlotAgrees R S n m l f no_room x = x.built ≡ NoRoom
+SlotAgrees R S n m l f (is b u) x = (x.built ≡ Some f.head.at) × (x.memory.used ≡ u) × SlotAs R S n m l f b x.memory
+SlotAgrees R S n m l f no_room x = x.built ≡ None
 
 -- the slots that are left
 pub record RowAs (R S n : ℕ) (m : Mem) (l : Map) (h : Head) (L : ℕ) (done : Forest) (c : ℕ) (g : Forest) (o : Mem) : Type 0 where
@@ -115,13 +115,13 @@ pub record RowAs (R S n : ℕ) (m : Mem) (l : Map) (h : Head) (L : ℕ) (done : 
   pub size : len g ≡ c
 
 abbrev RowAgrees : ℕ → ℕ → ℕ → Mem → Map → Head → ℕ → Forest → ℕ → Row → Out → Type 0
-RowAgrees R S n m l h L done c (are g u) x = (x.built ≡ At h.at) × (x.memory.used ≡ u) × RowAs R S n m l h L done c g x.memory
-RowAgrees R S n m l h L done c no_room_row x = x.built ≡ NoRoom
+RowAgrees R S n m l h L done c (are g u) x = (x.built ≡ Some h.at) × (x.memory.used ≡ u) × RowAs R S n m l h L done c g x.memory
+RowAgrees R S n m l h L done c no_room_row x = x.built ≡ None
 
 module _ (R S n : ℕ) (B : Builder) (G : Grower) (ih : Grows R S n B G) (m0 : Mem) (fine : Fine R S m0) where
   module _ (f : Frame) (m1 : Mem) (in-s : f.head.start + len f.left < S) (a1 : Added R S m0 m1 (λ x φ. in_b R φ x (plug (f ∷ []) null))) where
     child_agrees : (x : Out) (l : Map) (t : Grown) → Agrees R S n m1 l t x
-        → SlotAgrees R S n m0 l f t (and_then x (λ c m'. out (At f.head.at) (with_slots m' (put_child m'.slots (f.head.start + len f.left) c))))
+        → SlotAgrees R S n m0 l f t (and_then x (λ c m'. out (Some f.head.at) (with_slots m' (put_child m'.slots (f.head.start + len f.left) c))))
     unfolding put_child
     child_agrees x l (is null u) e = absurd e
     child_agrees x l (is (leaf k p) u) e = absurd e

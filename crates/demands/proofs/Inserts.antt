@@ -1,5 +1,6 @@
 -- Insert: its answer goes by its causes, a refusal keeps handle and memory, and scratch is wiped exactly where a rebuild was tried. By the
 -- parts of its definition, over plain variables. Assumes nothing.
+use Rattle.std.specs.Prelude.{None, Option, Some}
 use mathlib.Core.Bool.{Bool, true, false, ◌&&◌, ◌||◌, not}
 use mathlib.Core.List.{List, [], ◌∷◌, ◌++◌}
 use mathlib.Core.Logic.{⊎_elim}
@@ -10,8 +11,6 @@ use borrow.Author.Tests.{leb-true, leb-false, eqb-true, eqb-false, lt-ltb, le-lt
 use lib.Dec.{ltb, leb, eqb}
 use lib.ListN.{length, get_or, replicate, length-replicate}
 use lib.Seq.{sets, sets-eq}
-use Rattle.build.specs.declared.Built.{Built}
-use Rattle.build.specs.declared.Built.TheVariants.{At, NoRoom as Roomless}
 use Rattle.counters.specs.Counters.{due_in}
 use Rattle.demands.proofs.Refusals.{in_turn, unless, none-holds, at_once, skip, not_below, below}
 use Rattle.demands.specs.Demand1.{KeepsAll, tried, tried_over, zeros, zeroed}
@@ -53,10 +52,10 @@ module _ (m : Mem) (k : ℕ) where
 
 -- a tidying is never refused
 module _ (h : Handle) (f : Fresh) (i q c : ℕ) where
-  ends-done : (b : Built) (m : Mem) (s : Scratch) → (tidy_ends h f i q c b m s).answer.number ≡ 0
+  ends-done : (b : Option ℕ) (m : Mem) (s : Scratch) → (tidy_ends h f i q c b m s).answer.number ≡ 0
   unfolding tidy_ends replaced standing
-  ends-done (At r) m s = refl
-  ends-done Roomless m s = refl
+  ends-done (Some r) m s = refl
+  ends-done None m s = refl
 
   tidy-done : (before m : Mem) (s : Scratch) → (tidy_of h f i q c before m s).answer.number ≡ 0
   unfolding tidy_of standing
@@ -64,10 +63,10 @@ module _ (h : Handle) (f : Fresh) (i q c : ℕ) where
 
 -- the causes of an insert, from the end of its path on
 module _ (h : Handle) (m : Mem) (s : Scratch) where
-  pair-order : (f : Fresh) (i q : ℕ) (b : Built) (m' : Mem) → GoesBy (refuse no_room (is_roomless b) ∷ []) (pair_ends h f i q m s b m').answer
+  pair-order : (f : Fresh) (i q : ℕ) (b : Option ℕ) (m' : Mem) → GoesBy (refuse no_room (is_roomless b) ∷ []) (pair_ends h f i q m s b m').answer
   unfolding pair_ends
-  pair-order f i q (At c) m' = skip _ _ _ _ (none-holds _ (tidy-done h f i q c m m' s))
-  pair-order f i q Roomless m' = at_once _ _ _
+  pair-order f i q (Some c) m' = skip _ _ _ _ (none-holds _ (tidy-done h f i q c m m' s))
+  pair-order f i q None m' = at_once _ _ _
 
   settle-order : (f : Fresh) (i : ℕ)
       → GoesBy (refuse damage (not (sound_due h.capacity f.key f.path i m)) ∷ refuse no_room (is_roomless (pair_if f.conflict f.key f.payload f.other (held_payload f m) m).built) ∷ []) (settle_at h f i m s).answer
@@ -75,10 +74,10 @@ module _ (h : Handle) (m : Mem) (s : Scratch) where
   settle-order f i = unless _ _ (sound_due h.capacity f.key f.path i m) _ _ (λ e. rw e) (λ e. rw e (pair-order f i _ _ _))
 
   module _ (k p : ℕ) where
-    whole_ends-order : (b : Built) (m' : Mem) (s' : Scratch) → GoesBy (refuse no_room (is_roomless b) ∷ []) (whole_ends h m b m' s').answer
+    whole_ends-order : (b : Option ℕ) (m' : Mem) (s' : Scratch) → GoesBy (refuse no_room (is_roomless b) ∷ []) (whole_ends h m b m' s').answer
     unfolding whole_ends
-    whole_ends-order (At r) m' s' = skip _ _ _ _ (none-holds _ refl)
-    whole_ends-order Roomless m' s' = at_once _ _ _
+    whole_ends-order (Some r) m' s' = skip _ _ _ _ (none-holds _ refl)
+    whole_ends-order None m' s' = at_once _ _ _
 
     whole-order : GoesBy (refuse damage (not (sound_below h.capacity k 0 h.root m)) ∷ refuse no_room (is_roomless (rebuild_of h.capacity k p 0 h.root m s).out.built) ∷ []) (whole_of h k p m s).answer
     unfolding whole_of
@@ -144,19 +143,19 @@ insert-order h k p m s =
 -- a refusal keeps the handle and the memory
 module _ (h : Handle) (m : Mem) where
   module _ (s : Scratch) where
-    pair_keeps : (f : Fresh) (i q : ℕ) (b : Built) (m' : Mem) → KeepsAll h m (pair_ends h f i q m s b m')
+    pair_keeps : (f : Fresh) (i q : ℕ) (b : Option ℕ) (m' : Mem) → KeepsAll h m (pair_ends h f i q m s b m')
     unfolding pair_ends
-    pair_keeps f i q (At c) m' = λ r. absurd (r (tidy-done h f i q c m m' s))
-    pair_keeps f i q Roomless m' = λ r. (refl, refl)
+    pair_keeps f i q (Some c) m' = λ r. absurd (r (tidy-done h f i q c m m' s))
+    pair_keeps f i q None m' = λ r. (refl, refl)
 
     settle-keeps : (f : Fresh) → KeepsAll h m (settle_of h f m s)
     unfolding settle_of settle_at
     settle-keeps f = pick_in (KeepsAll h m) (sound_due h.capacity f.key f.path (due_in m.nodes f.conflict f.path) m) _ _ (pair_keeps f _ _ _ _) (λ r. (refl, refl))
 
-    whole_ends_keep : (b : Built) (m' : Mem) (s' : Scratch) → KeepsAll h m (whole_ends h m b m' s')
+    whole_ends_keep : (b : Option ℕ) (m' : Mem) (s' : Scratch) → KeepsAll h m (whole_ends h m b m' s')
     unfolding whole_ends
-    whole_ends_keep (At r) m' s' = λ r. absurd (r refl)
-    whole_ends_keep Roomless m' s' = λ r. (refl, refl)
+    whole_ends_keep (Some r) m' s' = λ r. absurd (r refl)
+    whole_ends_keep None m' s' = λ r. (refl, refl)
 
     module _ (k p : ℕ) where
       whole-keeps : KeepsAll h m (whole_of h k p m s)
@@ -196,10 +195,10 @@ wipes_not : (deep : Bool) (n : ℕ) (s : Scratch) (x : Insert) → tried_by deep
 wipes_not deep n s x t e = record { rebuilt = λ f. absurd (true_not_false (sym f ∙ t)); untouched = λ _. e }
 
 module _ (h : Handle) (s : Scratch) where
-  ends-wipe : (f : Fresh) (i q c n : ℕ) (b : Built) (m : Mem) → Wipes false n s (tidy_ends h f i q c b m (wiped n s))
+  ends-wipe : (f : Fresh) (i q c n : ℕ) (b : Option ℕ) (m : Mem) → Wipes false n s (tidy_ends h f i q c b m (wiped n s))
   unfolding tidy_ends replaced standing
-  ends-wipe f i q c n (At r) m = wipes false n s _ refl refl
-  ends-wipe f i q c n Roomless m = wipes false n s _ refl refl
+  ends-wipe f i q c n (Some r) m = wipes false n s _ refl refl
+  ends-wipe f i q c n None m = wipes false n s _ refl refl
 
   module _ (m : Mem) where
     abbrev live_keys : Fresh → ℕ → ℕ
@@ -210,20 +209,20 @@ module _ (h : Handle) (s : Scratch) where
     tidy_wipes f i q c m' =
         pick_in (Wipes false (live_keys f i) s) (ltb i (length f.path)) _ _ (ends-wipe f i q c _ _ _) (wipes_not false _ s _ refl refl)
 
-    pair_wipes : (f : Fresh) (i q : ℕ) (b : Built) (m' : Mem) → Wipes false (live_keys f i) s (pair_ends h f i q m s b m')
+    pair_wipes : (f : Fresh) (i q : ℕ) (b : Option ℕ) (m' : Mem) → Wipes false (live_keys f i) s (pair_ends h f i q m s b m')
     unfolding pair_ends
-    pair_wipes f i q (At c) m' = tidy_wipes f i q c m'
-    pair_wipes f i q Roomless m' = wipes_not false _ s _ refl refl
+    pair_wipes f i q (Some c) m' = tidy_wipes f i q c m'
+    pair_wipes f i q None m' = wipes_not false _ s _ refl refl
 
     settle_wipes : (f : Fresh) (i : ℕ) → Wipes false (live_keys f i) s (settle_at h f i m s)
     unfolding settle_at
     settle_wipes f i =
         pick_in (Wipes false (live_keys f i) s) (sound_due h.capacity f.key f.path i m) _ _ (pair_wipes f i _ _ _) (wipes_not false _ s _ refl refl)
 
-    whole_ends-wipe : (n : ℕ) (b : Built) (m' : Mem) → Wipes true n s (whole_ends h m b m' (wiped n s))
+    whole_ends-wipe : (n : ℕ) (b : Option ℕ) (m' : Mem) → Wipes true n s (whole_ends h m b m' (wiped n s))
     unfolding whole_ends
-    whole_ends-wipe n (At r) m' = wipes true n s _ refl refl
-    whole_ends-wipe n Roomless m' = wipes true n s _ refl refl
+    whole_ends-wipe n (Some r) m' = wipes true n s _ refl refl
+    whole_ends-wipe n None m' = wipes true n s _ refl refl
 
     module _ (k p : ℕ) where
       whole_wipes : Wipes true (length (keys_with h.capacity k 0 h.root m)) s (whole_of h k p m s)

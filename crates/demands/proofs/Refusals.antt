@@ -1,5 +1,6 @@
 -- Every call's answer goes by its causes, in their order: cause by cause, what the definition answers where this one holds and none before
 -- it did. Assumes nothing.
+use Rattle.std.specs.Prelude.{None, Option, Some}
 use mathlib.Core.Bool.{Bool, true, false, ◌&&◌, not}
 use mathlib.Core.List.{List, [], ◌∷◌, ◌++◌}
 use mathlib.Core.Logic.{inl, inr}
@@ -11,8 +12,6 @@ use lib.Dec.{ltb, leb, eqb}
 use lib.IntN.{ℤ}
 use lib.ListN.{length, get_or, set}
 use Rattle.build.specs.Building.{build}
-use Rattle.build.specs.declared.Built.{Built}
-use Rattle.build.specs.declared.Built.TheVariants.{At as BuiltAt, NoRoom}
 use Rattle.demands.specs.Demand1.{Answers}
 use Rattle.demands.specs.Refusals.{Cause, refuse, refuse_with, first_cause, GoesBy, OneOf, pack_causes, unpack_causes, slot_causes, model_causes, is_range, is_fall, place_of, is_roomless, load_causes, is_damage, holds_key, path_to, search_causes, delete_causes, band_causes}
 use Rattle.delete.specs.Deleting.{one_less, delete_of}
@@ -169,10 +168,10 @@ model_order bytes =
 
 -- load
 module _ (c : ℕ) (ks ps : List ℕ) (m : Mem) where
-  built-order : (b : Built) (after : Mem) → GoesBy (refuse no_room (is_roomless b) ∷ []) (load_built c (length ks) m b after).answer
+  built-order : (b : Option ℕ) (after : Mem) → GoesBy (refuse no_room (is_roomless b) ∷ []) (load_built c (length ks) m b after).answer
   unfolding load_built
-  built-order (BuiltAt r) after = skip _ _ _ _ (none-holds _ refl)
-  built-order NoRoom after = at_once _ _ _
+  built-order (Some r) after = skip _ _ _ _ (none-holds _ refl)
+  built-order None after = at_once _ _ _
 
   list-order : (f : Fault)
       → GoesBy (refuse out_of_range (is_range f) ∷ refuse_with not_rising (place_of f) (is_fall f) ∷ refuse no_room (is_roomless (build longest_path ks ps (emptied m)).built) ∷ []) (load_list c ks ps m f).answer

@@ -1,5 +1,6 @@
 -- Memory with less in it: a subtree released as the code releases it, children first, then the node's own run and record. Memory
 -- loses just what the subtree says, and its places are unused and zero. Assumes nothing.
+use Rattle.std.specs.Prelude.{Ok, Result}
 use mathlib.Core.Bool.{Bool, true, false}
 use mathlib.Core.List.{List}
 use mathlib.Core.Logic.{◌⊎◌, inl, inr, ⊎_elim}
@@ -21,7 +22,6 @@ use Rattle.pool.proofs.RunStores.{length-zero_run, zero_run-inside, zero_run_out
 use Rattle.pool.specs.Memory.{Mem}
 use Rattle.pool.specs.Reading.{node_at, slot_at}
 use Rattle.pool.specs.declared.Slot.{Slot}
-use Rattle.pool.specs.declared.Record.TheVariants.{Good as GoodRecord}
 use Rattle.demands.specs.Placed.{Head, Branch, null, leaf, sub, Forest, nil, cons, len, depth_b, depth_f, Cell, node, cell_of, Word, bit, in_node, in_slot, cell_w, at, in_b, in_f, view, HeadOk, OkB, OkF, Words}
 use Rattle.demands.proofs.Adding.{Fine, sized_as, spots, same_elsewhere}
 use Rattle.demands.proofs.Changing.{no_node}
@@ -29,6 +29,7 @@ use Rattle.demands.proofs.Holding.{HoldsF, root-reads, run_holds, first_reads, b
 use Rattle.demands.proofs.Plugs.{at_same, at_other, at_none, none-b}
 use Rattle.demands.proofs.Reading.{Holds, bit_small}
 use Rattle.demands.proofs.Walking.{node_of, slot_to, view-node, view-slot, node-past, slot-past, records-are, node-reads, slot-reads}
+use Rattle.pool.specs.declared.Rule.{Rule}
 
 pub record Removed (R S : ℕ) (m o : Mem) (δ : ℕ → (Cell → ℕ) → ℕ) : Type 0 where
   pub fine : Fine R S o
@@ -239,7 +240,7 @@ module _ (R S : ℕ) where
         let p = slot_removed d ih b m f o.1 (branch-holds R m (R + (t.start + j)) b g k) (omega arith) in
         let h : HoldsF R m1 (R + (t.start + (j + 1))) g = subst (λ (y : ℕ). HoldsF R m1 y g) a (rest_kept (R + (t.start + j)) b g m m1 k p) in
         let q = kids_removed d ih g (j + 1) m1 p.fine o.2 h (omega arith) in
-        subst⁻¹ (λ (s : Slot). Removed R S m (release_slots (release d) (node_of t l) (len g) (j + 1) (release_slot (release d) m s)) (λ x φ. in_b R φ x b + kids_f R φ x g)) e
+        subst⁻¹ (λ (s : Result Slot Rule). Removed R S m (release_slots (release d) (node_of t l) (len g) (j + 1) (release_slot (release d) m s)) (λ x φ. in_b R φ x b + kids_f R φ x g)) e
         (record { fine = q.fine; law = λ x w. omega (arith, p.law x w, q.law x w) })
       where
         rest_kept : (a : ℕ) (b : Branch) (g : Forest) (m m1 : Mem) → HoldsF R m a (cons b g) → Removed R S m m1 (λ x φ. in_b R φ x b) → HoldsF R m1 (a + 1) g
@@ -267,7 +268,7 @@ module _ (R S : ℕ) where
       no : suc (depth_f g) ≤ 0 → ⊥
       no x = omega arith
   release_removed (suc d) h g m f o k z =
-      let e : node_at m h.at ≡ GoodRecord (node_of h (len g)) = node-reads R S m f.sized h (len g) o.0 (root-reads R m h g k) in
+      let e : node_at m h.at ≡ Ok (node_of h (len g)) = node-reads R S m f.sized h (len g) o.0 (root-reads R m h g k) in
       let m1 : Mem = release_slots (release d) (node_of h (len g)) (len g) 0 m in
       let a : R + h.start ≡ R + (h.start + 0) = omega arith in
       let p : Removed R S m m1 (λ x φ. kids_f R φ x g) = kids_removed h (len g) d (release_removed d) g 0 m f o.1 (subst (λ (y : ℕ). HoldsF R m y g) a (run_holds R m h g k)) (omega arith) in

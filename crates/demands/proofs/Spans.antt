@@ -1,5 +1,6 @@
 -- Reading good memory in slot order: a band's or a rebuild's walk meets just the nodes and elements of the tree that its span takes.
 -- Assumes nothing.
+use Rattle.std.specs.Prelude.{Ok}
 use mathlib.Core.List.{List, [], ◌∷◌, ◌++◌}
 use mathlib.Core.Path.{◌≡◌, refl, subst, ap, ◌∙◌}
 use native.Mathlib.Omega.{arith}
@@ -7,7 +8,6 @@ use Prim.Native.Nat.{ℕ, zero, suc, ◌+◌, ◌<◌, ◌≤◌}
 use Rattle.model.specs.Slots.{InRange}
 use Rattle.pool.specs.Memory.{Mem}
 use Rattle.pool.specs.Reading.{node_at, slot_at}
-use Rattle.pool.specs.declared.Record.TheVariants.{Good as GoodRecord}
 use Rattle.walk.proofs.Readings.{last_within}
 use Rattle.walk.specs.Events.{first_in, count_in, in_slot, in_slots, in_record, events_at}
 use Rattle.walk.specs.declared.Event.{Event}
@@ -96,7 +96,7 @@ module _ (R S : ℕ) (s : Span) (m : Mem) (sized : Sized R S m) where
       no x = omega arith
   meets (suc d) h g q o k z =
       let md = model_in h.lo h.w (len g) in
-      let e : node_at m h.at ≡ GoodRecord (node_of h (len g)) = node-reads R S m sized h (len g) o.0 (root-reads R m h g k) in
+      let e : node_at m h.at ≡ Ok (node_of h (len g)) = node-reads R S m sized h (len g) o.0 (root-reads R m h g k) in
       let a : R + h.start ≡ R + (h.start + 0) = omega arith in
       let b : h.start + 0 ≡ h.start = omega arith in
       let c : first_in s md ≡ 0 + first_in s md = omega arith in

@@ -1,5 +1,6 @@
 -- Following a key in memory that holds a tree: the walk of the calls goes along the key's frames and ends at its branch, and a lookup
 -- answers as the map does, after as many nodes as there are frames. Assumes nothing.
+use Rattle.std.specs.Prelude.{Ok, Result}
 use mathlib.Core.Bool.{true}
 use mathlib.Core.List.{List, [], ◌∷◌, ◌++◌, append_assoc}
 use mathlib.Core.Path.{◌≡◌, refl, sym, ap, ◌∙◌}
@@ -14,7 +15,6 @@ use Rattle.pool.proofs.Nodes.{GoodNode, good-reads}
 use Rattle.pool.specs.Memory.{Mem, records_in, slots_in, record_words, slot_words}
 use Rattle.pool.specs.Reading.{node_in, node_at, slot_says, slot_at}
 use Rattle.pool.specs.declared.Node.{Node}
-use Rattle.pool.specs.declared.Record.TheVariants.{Good as GoodRecord}
 use Rattle.pool.specs.declared.Slot.{Slot}
 use Rattle.pool.specs.declared.Slot.TheVariants.{Null, Data, Child}
 use Rattle.store.specs.Handles.{map_words}
@@ -26,6 +26,7 @@ use Rattle.demands.specs.Map.{EachKey}
 use Rattle.demands.specs.Placed.{Head, Branch, null, leaf, sub, len, flat_b, depth_b, node, cell_of, Word, bit, in_node, in_slot, cell_w, in_b, view, HeadOk, model_in, OkB, Frame, plug, width, Follows, Words}
 use Rattle.demands.proofs.Plugs.{FrameOk, frame_of, slot_h, End, deep_in}
 use Rattle.demands.proofs.Reading.{Holds, holds-below, read_head, read_spot}
+use Rattle.pool.specs.declared.Rule.{Rule}
 
 -- the pools have R records and S slots
 pub record Sized (R S : ℕ) (m : Mem) : Type 0 where
@@ -74,10 +75,10 @@ abbrev pub node_of : Head → ℕ → Node
 node_of h l = record { model = model_in h.lo h.w l; start = h.start }
 
 -- what a slot that holds a branch says
-abbrev pub slot_to : Branch → Slot
-slot_to null = Null
-slot_to (leaf d p) = Data d
-slot_to (sub h g) = Child h.at
+abbrev pub slot_to : Branch → Result Slot Rule
+slot_to null = Ok Null
+slot_to (leaf d p) = Ok (Data d)
+slot_to (sub h g) = Ok (Child h.at)
 
 data-kind : (k : ℕ) → k < 2 ^ 48 → ((2 ^ 48 + k) / 2 ^ 48 ≡ 1) × ((2 ^ 48 + k) % 2 ^ 48 ≡ k)
 data-kind k h = (omega arith, omega arith)
@@ -126,7 +127,7 @@ module _ (R S : ℕ) (m : Mem) (s : Sized R S m) where
       range = ok.range;
     }
 
-    pub node-reads : node_at m h.at ≡ GoodRecord (node_of h l)
+    pub node-reads : node_at m h.at ≡ Ok (node_of h l)
     node-reads = good-reads m h.at (node_of h l) node-good
 
   -- memory reads a slot

@@ -1,10 +1,8 @@
 -- The causes of refusal of every call, in the order in which document 01 has them ("Load: 1, 7, then the first place with 2 or 4 (2 wins at
 -- one place), 8. Others: 1, 2, 3, 9 on the path or walk, 5 or 6, 7, 9 in a subtree to be rebuilt, 8"), and what it means that an answer
 -- goes by them. Definitions only.
-use Rattle.std.specs.Prelude.{Bool, true, false, ◌&&◌, not, List, [], ◌∷◌, ◌++◌, ◌⊎◌, ◌≡◌, ℕ, ◌/◌, ◌%◌, ltb, leb, eqb, ℤ, length, get_or}
+use Rattle.std.specs.Prelude.{Bool, true, false, ◌&&◌, not, List, [], ◌∷◌, ◌++◌, ◌⊎◌, ◌≡◌, ℕ, ◌/◌, ◌%◌, ltb, leb, eqb, ℤ, length, get_or, None, Option, Some}
 use Rattle.build.specs.Building.{Out, out, build}
-use Rattle.build.specs.declared.Built.{Built}
-use Rattle.build.specs.declared.Built.TheVariants.{At, NoRoom}
 use Rattle.counters.specs.Counters.{due_in}
 use Rattle.insert.specs.Inserting.{scratch_fits, sound_due}
 use Rattle.laws.specs.Answers.{Answer, done, refused_with, wrong_sizes, out_of_range, reversed, not_rising, held, not_held, full, no_room, damage}
@@ -90,9 +88,9 @@ place_of Nothing = []
 place_of OutOfRange = []
 place_of (NotRising p) = p ∷ []
 
-abbrev pub is_roomless : Built → Bool
-is_roomless (At r) = false
-is_roomless NoRoom = true
+abbrev pub is_roomless : Option ℕ → Bool
+is_roomless (Some r) = false
+is_roomless None = true
 
 abbrev pub load_causes : ℕ → List ℕ → List ℕ → Mem → List (Cause ℕ)
 load_causes capacity keys payloads m =
@@ -154,9 +152,9 @@ rebuilt_at m w = pick (too_deep w) 0 (due_in m.nodes (is_data w.end) w.path)
 
 -- the two-key node of a conflict; where there is none nothing is built
 abbrev pub pair_at : ℕ → ℕ → Mem → End → Out
-pair_at k p m (Empty q) = out (At 0) m
+pair_at k p m (Empty q) = out (Some 0) m
 pair_at k p m (Key q j) = pair_of k p j (get_or m.slots (payload_word q) 0) m
-pair_at k p m (Damage c) = out (At 0) m
+pair_at k p m (Damage c) = out (Some 0) m
 
 -- "no room for the .. two-key node or whole rebuild"
 abbrev pub lacks_room : Handle → ℕ → ℕ → Mem → Scratch → Walk → Bool

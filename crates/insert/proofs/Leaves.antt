@@ -1,5 +1,6 @@
 -- The small steps of an insert: scratch's sizes, the slot above a node of the path, what the slot at the path's end and the slot above
 -- hold afterwards, and whether the due subtree is sound. Assumes nothing.
+use Rattle.std.specs.Prelude.{Err, Ok}
 use mathlib.Core.Bool.{Bool, true, false}
 use mathlib.Core.List.{List}
 use mathlib.Core.Path.{◌≡◌, refl, sym, ap, ◌∙◌}
@@ -19,7 +20,6 @@ use Rattle.pool.specs.Memory.{Mem, slots_in}
 use Rattle.pool.specs.Reading.{node_in, node_at}
 use Rattle.pool.specs.Writing.{put_data, put_child}
 use Rattle.pool.specs.declared.Node.{Node}
-use Rattle.pool.specs.declared.Record.TheVariants.{Good, Broken}
 use Rattle.rebuild.specs.Rebuilding.{sound_below, scratch}
 use Rattle.walk.specs.Walks.{key_slot}
 use Rattle.walk.specs.declared.Path.{Path}
@@ -83,13 +83,13 @@ module _ (path : Path) (s : Sized path) where
       above_good : GoodNode m (get_or path.nodes (i - 1) 0) (node_in m.nodes (get_or path.nodes (i - 1) 0))
       above_good = good-node m _ _ (g (i - 1) (omega arith))
 
-      pub above_not_broken : (c : ℕ) → node_at m (get_or path.nodes (i - 1) 0) ≡ Broken c → ⊥
+      pub above_not_broken : (c : ℕ) → node_at m (get_or path.nodes (i - 1) 0) ≡ Err c → ⊥
       above_not_broken c e =
-          let z : Good (node_in m.nodes (get_or path.nodes (i - 1) 0)) ≡ Broken c = sym (g (i - 1) (omega arith)) ∙ e in
+          let z : Ok (node_in m.nodes (get_or path.nodes (i - 1) 0)) ≡ Err c = sym (g (i - 1) (omega arith)) ∙ e in
           let y : ◌≡◌ {A = ℕ} 0 1 = cc in
           omega arith
 
-      module _ (n : Node) (e : node_at m (get_or path.nodes (i - 1) 0) ≡ Good n) where
+      module _ (n : Node) (e : node_at m (get_or path.nodes (i - 1) 0) ≡ Ok n) where
         pub above-node : GoodNode m (get_or path.nodes (i - 1) 0) n
         above-node = good-node m _ _ e
 

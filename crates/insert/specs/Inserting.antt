@@ -1,9 +1,7 @@
 -- Insert (document 01, "The calls" and "Numbers of the answers"), on every input: the answer, the next handle, every word of the pools
 -- and of scratch. Refusals come in the order 1, 2, 9 on the path, 5, 7, 9 in a subtree to be rebuilt, 8. Definitions only.
-use Rattle.std.specs.Prelude.{Bool, true, false, ◌&&◌, List, [], ◌∷◌, ℕ, zero, suc, ◌+◌, ltb, leb, eqb, length, get_or, take}
+use Rattle.std.specs.Prelude.{Bool, true, false, ◌&&◌, List, [], ◌∷◌, ℕ, zero, suc, ◌+◌, ltb, leb, eqb, length, get_or, take, None, Option, Some}
 use Rattle.build.specs.Building.{Out}
-use Rattle.build.specs.declared.Built.{Built}
-use Rattle.build.specs.declared.Built.TheVariants.{At, NoRoom as Roomless}
 use Rattle.counters.specs.Counters.{due_in, raise}
 use Rattle.laws.specs.Answers.{Answer, done, refused, wrong_sizes, out_of_range, held, full, no_room, damage}
 use Rattle.laws.specs.Keys.{key_bound}
@@ -69,7 +67,7 @@ pub record Fresh : Type 0 where
 abbrev pub fresh : ℕ → ℕ → ℕ → Bool → ℕ → List ℕ → Fresh
 fresh k p q c j path = record { key = k; payload = p; slot = q; conflict = c; other = j; path = path }
 
--- "At NULL the slot becomes DATA. At DATA with another key .. a two-key node takes the slot", which is at record c
+-- "Some NULL the slot becomes DATA. Some DATA with another key .. a two-key node takes the slot", which is at record c
 unfoldable pub settled : Bool → ℕ → ℕ → ℕ → ℕ → List ℕ → List ℕ
 settled conflict q k p c ss = pick conflict (put_child ss q c) (put_data ss q k p)
 
@@ -100,9 +98,9 @@ replaced h f i q c r m s =
     (mem (raise (pair_gone f.conflict c m).nodes f.conflict (take i f.path)) (hung i q r (pair_gone f.conflict c m).slots) (pair_gone f.conflict c m).used) s
 
 -- done, or put off: "the insert stands with its counters, and no other store is made to the pools"
-unfoldable pub tidy_ends : Handle → Fresh → ℕ → ℕ → ℕ → Built → Mem → Scratch → Insert
-tidy_ends h f i q c (At r) m s = replaced h f i q c r m s
-tidy_ends h f i q c Roomless m s = standing h f put_off c m s
+unfoldable pub tidy_ends : Handle → Fresh → ℕ → ℕ → ℕ → Option ℕ → Mem → Scratch → Insert
+tidy_ends h f i q c (Some r) m s = replaced h f i q c r m s
+tidy_ends h f i q c None m s = standing h f put_off c m s
 
 abbrev pub tidy_by : Handle → Fresh → ℕ → ℕ → ℕ → Rebuilt → Insert
 tidy_by h f i q c x = tidy_ends h f i q c x.out.built x.out.memory x.scratch
@@ -120,9 +118,9 @@ tidy_of h f i q c before m s =
     pick (ltb i (length f.path)) (tidy_by h f i q c (rebuild_at h f i (get_or f.path i 0) before m s)) (standing h f not_due c m s)
 
 -- the two-key node's places come first: 8 without them
-unfoldable pub pair_ends : Handle → Fresh → ℕ → ℕ → Mem → Scratch → Built → Mem → Insert
-pair_ends h f i q before s (At c) m = tidy_of h f i q c before m s
-pair_ends h f i q before s Roomless m = insertion (refused no_room) h before s
+unfoldable pub pair_ends : Handle → Fresh → ℕ → ℕ → Mem → Scratch → Option ℕ → Mem → Insert
+pair_ends h f i q before s (Some c) m = tidy_of h f i q c before m s
+pair_ends h f i q before s None m = insertion (refused no_room) h before s
 
 abbrev pub pair_by : Handle → Fresh → ℕ → ℕ → Mem → Scratch → Out → Insert
 pair_by h f i q before s o = pair_ends h f i q before s o.built o.memory
@@ -147,9 +145,9 @@ unfoldable pub settle_of : Handle → Fresh → Mem → Scratch → Insert
 settle_of h f m s = settle_at h f (due_in m.nodes f.conflict f.path) m s
 
 -- "where the path already has 24 nodes, the whole tree is built afresh over all keys and the new one"
-unfoldable pub whole_ends : Handle → Mem → Built → Mem → Scratch → Insert
-whole_ends h before (At r) m s = insertion (done (1 ∷ whole_tree ∷ [])) (one_more_at r h) m s
-whole_ends h before Roomless m s = insertion (refused no_room) h before s
+unfoldable pub whole_ends : Handle → Mem → Option ℕ → Mem → Scratch → Insert
+whole_ends h before (Some r) m s = insertion (done (1 ∷ whole_tree ∷ [])) (one_more_at r h) m s
+whole_ends h before None m s = insertion (refused no_room) h before s
 
 abbrev pub whole_by : Handle → Mem → Rebuilt → Insert
 whole_by h before x = whole_ends h before x.out.built x.out.memory x.scratch

@@ -1,12 +1,11 @@
 -- What the steps of an insert may assume: of the handle, the key and the lent memory, once the refusals before it are past; of the end
 -- of the key's path; and of the places where a tidying stores. Definitions only.
-use Rattle.std.specs.Prelude.{Bool, ◌≡◌, ℕ, ◌^◌, ◌<◌, ◌≤◌, length, get_or}
+use Rattle.std.specs.Prelude.{Bool, ◌≡◌, ℕ, ◌^◌, ◌<◌, ◌≤◌, length, get_or, Ok}
 use Rattle.counters.specs.Counters.{OnPath}
 use Rattle.laws.specs.Keys.{key_bound}
 use Rattle.model.specs.Choice.{most_keys}
 use Rattle.pool.specs.Memory.{Mem, slots_in}
 use Rattle.pool.specs.Reading.{node_in, node_at}
-use Rattle.pool.specs.declared.Record.TheVariants.{Good}
 use Rattle.rebuild.specs.Judging.{Pooled}
 use Rattle.rebuild.specs.Pairs.{PairFits}
 use Rattle.rebuild.specs.Rebuilding.{Scratch}
@@ -32,7 +31,7 @@ pub record Sized (path : Path) : Type 0 where
 
 -- every node of the path was read as a good one
 abbrev pub GoodPath : Mem → Path → Type 0
-GoodPath m path = (i : ℕ) → i < path.len → node_at m (get_or path.nodes i 0) ≡ Good (node_in m.nodes (get_or path.nodes i 0))
+GoodPath m path = (i : ℕ) → i < path.len → node_at m (get_or path.nodes i 0) ≡ Ok (node_in m.nodes (get_or path.nodes i 0))
 
 -- the end of the path of key k: slot q, and in a conflict another key
 pub record Ends (k q : ℕ) (conflict : Bool) (other : ℕ) (path : Path) (m : Mem) : Type 0 where

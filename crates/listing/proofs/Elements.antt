@@ -1,4 +1,5 @@
 -- The elements that a reading meets, on any memory: each has a key below 2^48 and a slot of the pool, whatever the span. Assumes nothing.
+use Rattle.std.specs.Prelude.{Err, Ok, Result}
 use mathlib.Core.List.{List}
 use mathlib.Core.Path.{◌≡◌, refl}
 use Prim.Native.Nat.{ℕ, zero, suc, ◌+◌, ◌-◌, ◌<◌, ◌≤◌}
@@ -11,10 +12,8 @@ use Rattle.pool.proofs.Slots.{data-word}
 use Rattle.pool.specs.Memory.{Mem, slots_in}
 use Rattle.pool.specs.Reading.{node_at, slot_at}
 use Rattle.pool.specs.declared.Node.{Node}
-use Rattle.pool.specs.declared.Record.{Record}
-use Rattle.pool.specs.declared.Record.TheVariants.{Good, Broken}
 use Rattle.pool.specs.declared.Slot.{Slot}
-use Rattle.pool.specs.declared.Slot.TheVariants.{Null, Data, Child, Broken as BrokenSlot}
+use Rattle.pool.specs.declared.Slot.TheVariants.{Null, Data, Child}
 use Rattle.walk.proofs.Elements.{Each, each_both}
 use Rattle.walk.proofs.Readings.{last_within}
 use Rattle.walk.specs.Events.{first_in, last_in, count_in, in_slot, in_slots, in_record, too_long, events_at, events_of}
@@ -23,6 +22,7 @@ use Rattle.walk.specs.Walks.{longest_path}
 use Rattle.walk.specs.declared.Event.{Event}
 use Rattle.walk.specs.declared.Span.{Span}
 use Rattle.walk.specs.declared.Span.TheVariants.{Between, Whole}
+use Rattle.pool.specs.declared.Rule.{Rule}
 
 -- every element of the events is sound
 abbrev pub AllSound : Mem → List Event → Type 0
@@ -36,12 +36,12 @@ first-within m Whole r = omega arith
 module _ (m : Mem) where
   -- below a child all is sound
   module _ (deeper : ℕ → List Event) (below : (c : ℕ) → AllSound m (deeper c)) where
-    slot-sound : (n : Node) (j : ℕ) → n.start + j + 1 ≤ slots_in m.slots → (x : Slot) → slot_at m.slots n j ≡ x → AllSound m (in_slot deeper (n.start + j) x)
+    slot-sound : (n : Node) (j : ℕ) → n.start + j + 1 ≤ slots_in m.slots → (x : Result Slot Rule) → slot_at m.slots n j ≡ x → AllSound m (in_slot deeper (n.start + j) x)
     unfolding in_slot
-    slot-sound n j h Null e = tt
-    slot-sound n j h (Data k) e = (record { slot = omega arith; key = (data-word m.slots n j k e).small }, tt)
-    slot-sound n j h (Child c) e = below c
-    slot-sound n j h (BrokenSlot c) e = tt
+    slot-sound n j h (Ok Null) e = tt
+    slot-sound n j h (Ok (Data k)) e = (record { slot = omega arith; key = (data-word m.slots n j k e).small }, tt)
+    slot-sound n j h (Ok (Child c)) e = below c
+    slot-sound n j h (Err c) e = tt
 
     slots-sound : (n : Node) (count j : ℕ) → n.start + j + count ≤ slots_in m.slots → AllSound m (in_slots deeper m n count j)
     unfolding in_slots
@@ -49,18 +49,18 @@ module _ (m : Mem) where
     slots-sound n (suc count) j h =
         each_both (Sound m) (in_slot deeper (n.start + j) (slot_at m.slots n j)) _ (slot-sound n j (omega arith) (slot_at m.slots n j) refl) (slots-sound n count (j + 1) (omega arith))
 
-    record-sound : (s : Span) (r : ℕ) (x : Record) → node_at m r ≡ x → AllSound m (in_record s deeper m r x)
+    record-sound : (s : Span) (r : ℕ) (x : Result Node Rule) → node_at m r ≡ x → AllSound m (in_record s deeper m r x)
     unfolding in_record count_in
-    record-sound s r (Good n) e =
+    record-sound s r (Ok n) e =
         let g = good-node m r n e in
         let f : n.start + n.model.l ≤ slots_in m.slots = g.fits in
         slots-sound n (last_in s n.model + 1 - first_in s n.model) (first_in s n.model) (omega (arith, f, first-within n.model s g.range, last_within n.model s g.range))
-    record-sound s r (Broken c) e = tt
+    record-sound s r (Err c) e = tt
 
-  long-sound : (x : Record) → AllSound m (too_long x)
+  long-sound : (x : Result Node Rule) → AllSound m (too_long x)
   unfolding too_long
-  long-sound (Good n) = tt
-  long-sound (Broken c) = tt
+  long-sound (Ok n) = tt
+  long-sound (Err c) = tt
 
   events_at-sound : (s : Span) (d r : ℕ) → AllSound m (events_at s m d r)
   unfolding events_at

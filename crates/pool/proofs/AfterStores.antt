@@ -1,5 +1,6 @@
 -- Reading after a store: what was stored is read, and what another slot, run or record says is as it was. What a node's record
 -- and a slot say hangs on four words and on one. Assumes nothing.
+use Rattle.std.specs.Prelude.{Ok}
 use mathlib.Core.List.{List}
 use mathlib.Core.Logic.{◌⊎◌, ⊎_elim, inl, inr}
 use mathlib.Core.Path.{◌≡◌, ap}
@@ -57,18 +58,18 @@ unfolding slot_at
 slot_same ss ts n j e = ap (slot_says n j) e
 
 module _ (ss : List ℕ) (n : Node) (j : ℕ) where
-  pub slot-put_data : (key payload : ℕ) → payload_word (n.start + j) < length ss → key < kind_unit → slot_of n.model (value_of key) ≡ j → slot_at (put_data ss (n.start + j) key payload) n j ≡ Data key
+  pub slot-put_data : (key payload : ℕ) → payload_word (n.start + j) < length ss → key < kind_unit → slot_of n.model (value_of key) ≡ j → slot_at (put_data ss (n.start + j) key payload) n j ≡ Ok (Data key)
   slot-put_data key payload h small belongs =
       data_reads _ n j key (record { word = put_data_kind ss (n.start + j) key payload h; small = small; belongs = belongs })
 
-  pub slot-put_child : (child : ℕ) → payload_word (n.start + j) < length ss → child < kind_unit → slot_at (put_child ss (n.start + j) child) n j ≡ Child child
+  pub slot-put_child : (child : ℕ) → payload_word (n.start + j) < length ss → child < kind_unit → slot_at (put_child ss (n.start + j) child) n j ≡ Ok (Child child)
   slot-put_child child h small =
       child-reads _ n j child (record { word = put_child_kind ss (n.start + j) child h; small = small })
 
-  pub slot-put_null : payload_word (n.start + j) < length ss → slot_at (put_null ss (n.start + j)) n j ≡ Null
+  pub slot-put_null : payload_word (n.start + j) < length ss → slot_at (put_null ss (n.start + j)) n j ≡ Ok Null
   slot-put_null h = null-reads _ n j (rw (put_null_kind ss (n.start + j) h))
 
-  pub slot-zero_run : (start l : ℕ) → start ≤ n.start + j → n.start + j < start + l → slot_at (zero_run ss start l) n j ≡ Null
+  pub slot-zero_run : (start l : ℕ) → start ≤ n.start + j → n.start + j < start + l → slot_at (zero_run ss start l) n j ≡ Ok Null
   slot-zero_run start l a b = null-reads _ n j (rw (zero_run-inside ss start l (kind_word (n.start + j)) (omega arith) (omega arith)))
 
   pub slot-put_data-other : (q key payload : ℕ) → (n.start + j ≡ q → ⊥) → slot_at (put_data ss q key payload) n j ≡ slot_at ss n j

@@ -1,5 +1,6 @@
 -- A memory that grows: no list gets longer or shorter, every mark stays, and what is marked used keeps its words. What was read of marked
 -- places alone is read of the grown memory too: a good node, a slot that is marked, a run that is wholly marked. Assumes nothing.
+use Rattle.std.specs.Prelude.{Ok}
 use mathlib.Core.Bool.{true, false}
 use mathlib.Core.List.{List}
 use mathlib.Core.Path.{◌≡◌, refl, sym, subst, ◌∙◌}
@@ -12,7 +13,6 @@ use Rattle.marks.specs.Used.{used_at, full_run}
 use Rattle.pool.specs.Memory.{Mem, mem, record_words, slot_words, records_in, slots_in, slot_place, kind_word, payload_word}
 use Rattle.pool.specs.Reading.{node_at, slot_at}
 use Rattle.pool.specs.declared.Node.{Node}
-use Rattle.pool.specs.declared.Record.TheVariants.{Good}
 use Rattle.pool.proofs.AfterStores.{node-same, slot_same}
 use Rattle.pool.proofs.Nodes.{good-node, good-reads}
 
@@ -71,7 +71,7 @@ grows_slot_stored m x g q free ss long other = record {
 
 -- what is read of a grown memory
 module _ (m m' : Mem) (g : Grows m m') where
-  pub grows_good : (r : ℕ) (n : Node) → node_at m r ≡ Good n → node_at m' r ≡ Good n
+  pub grows_good : (r : ℕ) (n : Node) → node_at m r ≡ Ok n → node_at m' r ≡ Ok n
   grows_good r n e =
       let h = good-node m r n e in
       good-reads m' r n (record {

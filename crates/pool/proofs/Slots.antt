@@ -1,4 +1,5 @@
 -- Reading a slot: what its word says kind by kind, and from what is read back to the word. Assumes nothing.
+use Rattle.std.specs.Prelude.{Err, Ok}
 use mathlib.Core.List.{List}
 use mathlib.Core.Path.{◌≡◌, ◌∙◌}
 use Prim.Native.Nat.{ℕ, ◌+◌, ◌*◌, ◌/◌, ◌%◌, ◌<◌}
@@ -9,25 +10,27 @@ use lib.ListN.{get_or}
 use Rattle.laws.proofs.Tests.{both}
 use Rattle.model.specs.Slots.{value_of, slot_of}
 use Rattle.pool.specs.Memory.{kind_word, kind_unit, null_kind, data_kind, node_kind}
-use Rattle.pool.specs.Reading.{unknown_kind, misplaced_key, slot_says, slot_at}
+use Rattle.pool.specs.Reading.{slot_says, slot_at}
+use Rattle.pool.specs.declared.Rule.{Rule}
 use Rattle.pool.specs.declared.Node.{Node}
-use Rattle.pool.specs.declared.Slot.TheVariants.{Null, Data, Child, Broken}
+use Rattle.pool.specs.declared.Slot.TheVariants.{Null, Data, Child}
+use Rattle.pool.specs.declared.Rule.TheVariants.{UnknownKind, MisplacedKey}
 
 -- what a word says, kind by kind
 module _ (n : Node) (j x : ℕ) where
-  pub says-null : x / kind_unit ≡ null_kind → slot_says n j x ≡ Null
+  pub says-null : x / kind_unit ≡ null_kind → slot_says n j x ≡ Ok Null
   unfolding slot_says
   says-null k = rw (eq-eqb (x / kind_unit) null_kind k)
 
-  pub says-data : x / kind_unit ≡ data_kind → slot_of n.model (value_of (x % kind_unit)) ≡ j → slot_says n j x ≡ Data (x % kind_unit)
+  pub says-data : x / kind_unit ≡ data_kind → slot_of n.model (value_of (x % kind_unit)) ≡ j → slot_says n j x ≡ Ok (Data (x % kind_unit))
   unfolding slot_says
   says-data k e = rw (ne_eqb (x / kind_unit) null_kind (λ z. omega arith), eq-eqb (x / kind_unit) data_kind k, eq-eqb _ j e)
 
-  pub says_misplaced : x / kind_unit ≡ data_kind → (slot_of n.model (value_of (x % kind_unit)) ≡ j → ⊥) → slot_says n j x ≡ Broken misplaced_key
+  pub says_misplaced : x / kind_unit ≡ data_kind → (slot_of n.model (value_of (x % kind_unit)) ≡ j → ⊥) → slot_says n j x ≡ Err MisplacedKey
   unfolding slot_says
   says_misplaced k d = rw (ne_eqb (x / kind_unit) null_kind (λ z. omega arith), eq-eqb (x / kind_unit) data_kind k, ne_eqb _ j d)
 
-  pub says-child : x / kind_unit ≡ node_kind → slot_says n j x ≡ Child (x % kind_unit)
+  pub says-child : x / kind_unit ≡ node_kind → slot_says n j x ≡ Ok (Child (x % kind_unit))
   unfolding slot_says
   says-child k =
       rw (
@@ -36,7 +39,7 @@ module _ (n : Node) (j x : ℕ) where
         eq-eqb (x / kind_unit) node_kind k,
       )
 
-  pub says-unknown : (x / kind_unit ≡ null_kind → ⊥) → (x / kind_unit ≡ data_kind → ⊥) → (x / kind_unit ≡ node_kind → ⊥) → slot_says n j x ≡ Broken unknown_kind
+  pub says-unknown : (x / kind_unit ≡ null_kind → ⊥) → (x / kind_unit ≡ data_kind → ⊥) → (x / kind_unit ≡ node_kind → ⊥) → slot_says n j x ≡ Err UnknownKind
   unfolding slot_says
   says-unknown a b c =
       rw (ne_eqb (x / kind_unit) null_kind a, ne_eqb (x / kind_unit) data_kind b, ne_eqb (x / kind_unit) node_kind c)
@@ -54,11 +57,11 @@ pub record ChildSlot (ss : List ℕ) (n : Node) (j c : ℕ) : Type 0 where
 
 -- from the word to what is read
 module _ (ss : List ℕ) (n : Node) (j : ℕ) where
-  pub null-reads : get_or ss (kind_word (n.start + j)) 0 / kind_unit ≡ null_kind → slot_at ss n j ≡ Null
+  pub null-reads : get_or ss (kind_word (n.start + j)) 0 / kind_unit ≡ null_kind → slot_at ss n j ≡ Ok Null
   unfolding slot_at
   null-reads e = says-null n j _ e
 
-  pub data_reads : (k : ℕ) → DataSlot ss n j k → slot_at ss n j ≡ Data k
+  pub data_reads : (k : ℕ) → DataSlot ss n j k → slot_at ss n j ≡ Ok (Data k)
   unfolding slot_at
   data_reads k d =
       let x = get_or ss (kind_word (n.start + j)) 0 in
@@ -66,7 +69,7 @@ module _ (ss : List ℕ) (n : Node) (j : ℕ) where
       let b : x % kind_unit ≡ k = omega (arith, d.word, d.small) in
       says-data n j x a (rw b d.belongs) ∙ rw b
 
-  pub child-reads : (c : ℕ) → ChildSlot ss n j c → slot_at ss n j ≡ Child c
+  pub child-reads : (c : ℕ) → ChildSlot ss n j c → slot_at ss n j ≡ Ok (Child c)
   unfolding slot_at
   child-reads c d =
       let x = get_or ss (kind_word (n.start + j)) 0 in
@@ -76,10 +79,10 @@ module _ (ss : List ℕ) (n : Node) (j : ℕ) where
 
 -- the ways that a word can be read, by its kind
 kinds : {A : Type 0} (n : Node) (j x : ℕ)
-    → (x / kind_unit ≡ null_kind → slot_says n j x ≡ Null → A)
-    → (x / kind_unit ≡ data_kind → slot_of n.model (value_of (x % kind_unit)) ≡ j → slot_says n j x ≡ Data (x % kind_unit) → A)
-    → (x / kind_unit ≡ node_kind → slot_says n j x ≡ Child (x % kind_unit) → A)
-    → ((rule : ℕ) → slot_says n j x ≡ Broken rule → A)
+    → (x / kind_unit ≡ null_kind → slot_says n j x ≡ Ok Null → A)
+    → (x / kind_unit ≡ data_kind → slot_of n.model (value_of (x % kind_unit)) ≡ j → slot_says n j x ≡ Ok (Data (x % kind_unit)) → A)
+    → (x / kind_unit ≡ node_kind → slot_says n j x ≡ Ok (Child (x % kind_unit)) → A)
+    → ((rule : Rule) → slot_says n j x ≡ Err rule → A)
     → A
 kinds n j x if_null if_data if_child if_broken =
     both (eqb (x / kind_unit) null_kind)
@@ -101,7 +104,7 @@ zero_not_one z = omega arith
 
 -- from what is read to the word
 module _ (ss : List ℕ) (n : Node) (j : ℕ) where
-  pub null_word : slot_at ss n j ≡ Null → get_or ss (kind_word (n.start + j)) 0 / kind_unit ≡ null_kind
+  pub null_word : slot_at ss n j ≡ Ok Null → get_or ss (kind_word (n.start + j)) 0 / kind_unit ≡ null_kind
   unfolding slot_at
   null_word e =
       kinds n j (get_or ss (kind_word (n.start + j)) 0)
@@ -110,7 +113,7 @@ module _ (ss : List ℕ) (n : Node) (j : ℕ) where
       (λ k s. absurd (zero_not_one (cc)))
       (λ rule s. absurd (zero_not_one (cc)))
 
-  pub data-word : (k : ℕ) → slot_at ss n j ≡ Data k → DataSlot ss n j k
+  pub data-word : (k : ℕ) → slot_at ss n j ≡ Ok (Data k) → DataSlot ss n j k
   unfolding slot_at
   data-word v e =
       let x = get_or ss (kind_word (n.start + j)) 0 in
@@ -122,7 +125,7 @@ module _ (ss : List ℕ) (n : Node) (j : ℕ) where
       (λ k s. absurd (zero_not_one (cc)))
       (λ rule s. absurd (zero_not_one (cc)))
 
-  pub child-word : (c : ℕ) → slot_at ss n j ≡ Child c → ChildSlot ss n j c
+  pub child-word : (c : ℕ) → slot_at ss n j ≡ Ok (Child c) → ChildSlot ss n j c
   unfolding slot_at
   child-word v e =
       let x = get_or ss (kind_word (n.start + j)) 0 in

@@ -25,28 +25,23 @@ impl Node {
     pub const SLOT_WORDS: usize = 2;
 }
 
-// A record read: the node, or the first rule that it breaks.
-#[derive(Clone, Copy)]
-pub enum Record {
-    Good(Node),
-    Broken(u8),
+// The rules that what is read has to keep; the first one broken is told.
+#[derive(Clone, Copy, Debug, PartialEq, Eq)]
+pub enum Rule {
+    UnusedRecord,
+    RunOutside,
+    ModelOutOfRange,
+    UnknownKind,
+    MisplacedKey,
+    PathTooLong,
 }
 
-impl Record {
-    pub const UNUSED: u8 = 1;
-
-    pub const RUN_OUTSIDE: u8 = 2;
-
-    pub const MODEL_OUT_OF_RANGE: u8 = 3;
-}
-
-// A slot read: nothing, a key, the record of a child, or the first rule that it breaks. A key and a record are below UNIT.
-#[derive(Clone, Copy)]
+// What a slot holds: nothing, a key, or the record of a child. A key and a record are below UNIT.
+#[derive(Clone, Copy, Debug, PartialEq, Eq)]
 pub enum Slot {
     Null,
     Data(u64),
     Child(usize),
-    Broken(u8),
 }
 
 impl Slot {
@@ -57,21 +52,17 @@ impl Slot {
     pub const DATA: u64 = 1;
 
     pub const NODE: u64 = 2;
-
-    pub const UNKNOWN_KIND: u8 = 4;
-
-    pub const MISPLACED_KEY: u8 = 5;
 }
 
 // The node of record r, or the first rule that it breaks, whatever the memory holds.
-pub fn node_at(nodes: &[u64], slots: &[u64], used: &[u64], r: usize) -> Record
+pub fn node_at(nodes: &[u64], slots: &[u64], used: &[u64], r: usize) -> Result<Node, Rule>
     ensures { result ≡ node_at (mem nodes.now slots.now used.now) r }
 {
     if nodes.len() / Node::RECORD_WORDS <= r {
-        return Record::Broken(Record::UNUSED);
+        return Err(Rule::UnusedRecord);
     }
     if !marks::is_used(used, r) {
-        return Record::Broken(Record::UNUSED);
+        return Err(Rule::UnusedRecord);
     }
     let at = r * Node::RECORD_WORDS;
     let lo = nodes[at];
@@ -80,34 +71,34 @@ pub fn node_at(nodes: &[u64], slots: &[u64], used: &[u64], r: usize) -> Record
     let start = nodes[at + 3];
     let count = (slots.len() / Node::SLOT_WORDS) as u64;
     if count < l {
-        return Record::Broken(Record::RUN_OUTSIDE);
+        return Err(Rule::RunOutside);
     }
     if count - l < start {
-        return Record::Broken(Record::RUN_OUTSIDE);
+        return Err(Rule::RunOutside);
     }
     if l < Model::LEAST_SLOTS {
-        return Record::Broken(Record::MODEL_OUT_OF_RANGE);
+        return Err(Rule::ModelOutOfRange);
     }
     if Model::MOST_SLOTS < l {
-        return Record::Broken(Record::MODEL_OUT_OF_RANGE);
+        return Err(Rule::ModelOutOfRange);
     }
     if w < 1 {
-        return Record::Broken(Record::MODEL_OUT_OF_RANGE);
+        return Err(Rule::ModelOutOfRange);
     }
     if Model::VALUE_BOUND < w {
-        return Record::Broken(Record::MODEL_OUT_OF_RANGE);
+        return Err(Rule::ModelOutOfRange);
     }
     if Model::VALUE_BOUND - w < lo {
-        return Record::Broken(Record::MODEL_OUT_OF_RANGE);
+        return Err(Rule::ModelOutOfRange);
     }
-    Record::Good(Node {
+    Ok(Node {
         model: Model { lo, w, l },
         start: start as usize,
     })
 }
 
 // What slot j of a node holds, or the first rule that it breaks.
-pub fn slot_at(slots: &[u64], n: Node, j: usize) -> Slot
+pub fn slot_at(slots: &[u64], n: Node, j: usize) -> Result<Slot, Rule>
     requires j_in_bounds { (n.start + j) * 2 < length slots.now }
     requires in_range { InRange n.model }
     ensures { result ≡ slot_at slots.now n j }
@@ -117,19 +108,19 @@ pub fn slot_at(slots: &[u64], n: Node, j: usize) -> Slot
     let kind = word / Slot::UNIT;
     let value = word % Slot::UNIT;
     if kind == Slot::NULL {
-        return Slot::Null;
+        return Ok(Slot::Null);
     }
     if kind == Slot::DATA {
         let m = n.model;
         if model::slot_of(m, value) == j as u64 {
-            return Slot::Data(value);
+            return Ok(Slot::Data(value));
         }
-        return Slot::Broken(Slot::MISPLACED_KEY);
+        return Err(Rule::MisplacedKey);
     }
     if kind == Slot::NODE {
-        return Slot::Child(value as usize);
+        return Ok(Slot::Child(value as usize));
     }
-    Slot::Broken(Slot::UNKNOWN_KIND)
+    Err(Rule::UnknownKind)
 }
 
 // A new node's record: elements and built are the count of its keys, and there were no conflicts.

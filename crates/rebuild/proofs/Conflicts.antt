@@ -1,5 +1,6 @@
 -- The two-key node: two keys rise, the answer of each way of the code is the definition's, and where there is no room for the node nothing
 -- was stored. Assumes nothing.
+use Rattle.std.specs.Prelude.{None, Option, Some}
 use mathlib.Core.Bool.{Bool, true, false}
 use mathlib.Core.List.{List, [], ◌∷◌}
 use mathlib.Core.Logic.{⊎_elim}
@@ -12,8 +13,6 @@ use lib.ListN.{length, get_or}
 use Rattle.build.proofs.Heights.{child_lower}
 use Rattle.build.specs.Building.{Out, out, and_then, Builder, lowest_record, lowest_slots, place_node, payloads_to, fill_slot, fill_slots, node_on, node_with, build}
 use Rattle.build.specs.Releasing.{release}
-use Rattle.build.specs.declared.Built.{Built}
-use Rattle.build.specs.declared.Built.TheVariants.{At, NoRoom}
 use Rattle.laws.proofs.Tests.{both, le_or_lt}
 use Rattle.laws.specs.Keys.{key_bound, Rising}
 use Rattle.marks.specs.declared.Run.{Run}
@@ -46,7 +45,7 @@ two_rise a b h k = record { below = under; rises = climb }
 
 -- the ways of the code
 module _ (a p b q : ℕ) (m : Mem) where
-  pub pair-none : (c : Bool) → c ≡ false → out (At 0) m ≡ pair_if c a p b q m
+  pub pair-none : (c : Bool) → c ≡ false → out (Some 0) m ≡ pair_if c a p b q m
   unfolding pair_if
   pair-none c e = rw e
 
@@ -68,16 +67,16 @@ pair_goes c r m n e f = rw e (f ∙ release_alone r m)
 
 -- slots with at most one key each need no child, so they always have room
 module _ (B : Builder) (r : ℕ) (node : Node) (ks : List ℕ) (few : (s : ℕ) → length (keys_to node.model s ks) ≤ 1) where
-  single_fills : (q : ℕ) (g ps : List ℕ) (m : Mem) → length g ≤ 1 → (fill_slot B r q g ps m).built ≡ At r
+  single_fills : (q : ℕ) (g ps : List ℕ) (m : Mem) → length g ≤ 1 → (fill_slot B r q g ps m).built ≡ Some r
   unfolding fill_slot
   single_fills q [] ps m h = refl
   single_fills q (k ∷ []) ps m h = refl
   single_fills q (k ∷ j ∷ g) ps m h = absurd (omega arith)
 
-  then_fills : (o : Out) (f : ℕ → Mem → Out) → o.built ≡ At r → ((n : Mem) → (f r n).built ≡ At r) → (and_then o f).built ≡ At r
+  then_fills : (o : Out) (f : ℕ → Mem → Out) → o.built ≡ Some r → ((n : Mem) → (f r n).built ≡ Some r) → (and_then o f).built ≡ Some r
   then_fills o f e g = rw e (g o.memory)
 
-  singles_fill : (n s : ℕ) (ps : List ℕ) (m : Mem) → (fill_slots B r node n s ks ps m).built ≡ At r
+  singles_fill : (n s : ℕ) (ps : List ℕ) (m : Mem) → (fill_slots B r node n s ks ps m).built ≡ Some r
   unfolding fill_slots
   singles_fill zero s ps m = refl
   singles_fill (suc n) s ps m =
@@ -85,7 +84,7 @@ module _ (B : Builder) (r : ℕ) (node : Node) (ks : List ℕ) (few : (s : ℕ) 
       (single_fills (node.start + s) (keys_to node.model s ks) (payloads_to node.model s ks ps) m (few s))
       (λ n'. singles_fill n (s + 1) ps n')
 
-at_not_none : (r : ℕ) (b : Built) → b ≡ At r → b ≡ NoRoom → ⊥
+at_not_none : (r : ℕ) (b : Option ℕ) → b ≡ Some r → b ≡ None → ⊥
 at_not_none r b e f = let z : ◌≡◌ {A = ℕ} 0 1 = cc in omega arith
 
 -- a node of a build one level high that finds no places stores nothing
@@ -97,14 +96,14 @@ module _ (d : ℕ) (ks : List ℕ) (rising : Rising ks) (low : height (length ks
       (λ (two : 1 < length (keys_to (model_of ks) s ks)). absurd (omega (arith, child_lower ks rising s two, height_positive (length (keys_to (model_of ks) s ks)))))
       (le_or_lt (length (keys_to (model_of ks) s ks)) 1)
 
-  on_run : (r : ℕ) (w : Run) → (node_on (build d) r (model_of ks) w ks ps m).built ≡ NoRoom → (node_on (build d) r (model_of ks) w ks ps m).memory ≡ m
+  on_run : (r : ℕ) (w : Run) → (node_on (build d) r (model_of ks) w ks ps m).built ≡ None → (node_on (build d) r (model_of ks) w ks ps m).memory ≡ m
   unfolding node_on
   on_run r Nowhere e = refl
   on_run r (RunAt s) e =
       let node : Node = record { model = model_of ks; start = s } in
       absurd (at_not_none r _ (singles_fill (build d) r node ks few (model_of ks).l 0 ps (place_node m r node (length ks))) e)
 
-  low-stores_nothing : (build (suc d) ks ps m).built ≡ NoRoom → (build (suc d) ks ps m).memory ≡ m
+  low-stores_nothing : (build (suc d) ks ps m).built ≡ None → (build (suc d) ks ps m).memory ≡ m
   unfolding build node_with
   low-stores_nothing e =
       both (ltb (lowest_record m) (records_in m.nodes))
@@ -119,7 +118,7 @@ pub parted : (a b : ℕ) → b ≤ a → (a ≡ b → ⊥) → b < a
 parted a b h n = ⊎_elim (λ (le : a ≤ b). absurd (n (omega arith))) (λ (lt : b < a). lt) (le_or_lt a b)
 
 -- where there is no room for the two-key node, the memory is as it was
-pub pair-roomless : (c : Bool) (a p b q : ℕ) (m : Mem) → PairFits c a b → (pair_if c a p b q m).built ≡ NoRoom → (pair_if c a p b q m).memory ≡ m
+pub pair-roomless : (c : Bool) (a p b q : ℕ) (m : Mem) → PairFits c a b → (pair_if c a p b q m).built ≡ None → (pair_if c a p b q m).memory ≡ m
 unfolding pair_if pair_of
 pair-roomless c a p b q m f e =
     both c

@@ -1,5 +1,6 @@
 -- Building in place: the sizes counted into a list are judged there, and what is then built, or not, is the definition's. Assumes
 -- nothing.
+use Rattle.std.specs.Prelude.{None, Option, Some}
 use mathlib.Core.Bool.{Bool, true, false}
 use mathlib.Core.List.{List}
 use mathlib.Core.Path.{◌≡◌, refl, sym, ap, subst, ◌∙◌}
@@ -21,8 +22,6 @@ use Rattle.build.specs.Releasing.{release}
 use Rattle.build.specs.Room.{place_all}
 use Rattle.build.specs.Sizes.{sizes_of, depth_of}
 use Rattle.build.specs.Undoing.{Asked, Judged}
-use Rattle.build.specs.declared.Built.{Built}
-use Rattle.build.specs.declared.Built.TheVariants.{At, NoRoom}
 use Rattle.build.specs.declared.sizes.Needs.{Needs}
 use Rattle.laws.proofs.Tests.{both}
 use Rattle.model.proofs.Heights.{height-within}
@@ -48,12 +47,12 @@ pub hinted_first : (m : Mem) → Hinted m (record { «record» = 0; slot = 0 })
 hinted_first m = record { record-within = omega arith; slot-within = omega arith; records-used = λ r h. absurd (omega arith); slots-used = λ q h. absurd (omega arith) }
 
 -- a build that has no room stores nothing
-swap-none : (old : List Met) (m : Mem) (o : Out) → o.built ≡ NoRoom → swap old m o ≡ out NoRoom m
+swap-none : (old : List Met) (m : Mem) (o : Out) → o.built ≡ None → swap old m o ≡ out None m
 unfolding swapped
 swap-none old m o e = rw e
 
 -- once it has, the old nodes go
-swap-built : (old : List Met) (m : Mem) (o : Out) (x : ℕ) → o.built ≡ At x → swap old m o ≡ out o.built (zeroed old o.memory)
+swap-built : (old : List Met) (m : Mem) (o : Out) (x : ℕ) → o.built ≡ Some x → swap old m o ≡ out o.built (zeroed old o.memory)
 unfolding swapped
 swap-built old m o x e = rw e
 
@@ -109,34 +108,34 @@ module _ (above top : ℕ) (ks ps : List ℕ) (m : Mem) (places : List ℕ) (j :
       left-same : left ≡ m
       left-same = rw q.used
 
-      roomless : b ≡ false → in_place above (nodes_below above top m) ks ps m ≡ out NoRoom m
+      roomless : b ≡ false → in_place above (nodes_below above top m) ks ps m ≡ out None m
       unfolding in_place afresh
       roomless f =
           both (leb (above + depth_of longest_path ks) longest_path)
           (λ e. rw e (swap-none (nodes_below above top m) m (build longest_path ks ps m) (lacks-refuses longest_path ks j.rising enough ps m (sym fits_is ∙ f))))
-          (λ e. rw e (swap-none (nodes_below above top m) m (out NoRoom m) refl))
+          (λ e. rw e (swap-none (nodes_below above top m) m (out None m) refl))
 
-      too-deep : longest_path < above + n.depth → in_place above (nodes_below above top m) ks ps m ≡ out NoRoom m
+      too-deep : longest_path < above + n.depth → in_place above (nodes_below above top m) ks ps m ≡ out None m
       unfolding in_place afresh
-      too-deep h = rw (lt-leb (above + depth_of longest_path ks) longest_path (omega (arith, depth_is))) (swap-none (nodes_below above top m) m (out NoRoom m) refl)
+      too-deep h = rw (lt-leb (above + depth_of longest_path ks) longest_path (omega (arith, depth_is))) (swap-none (nodes_below above top m) m (out None m) refl)
 
       -- no room for the sizes
-      pub judges_no_room : b ≡ false → Judges above top ks ps m places left list₂ NoRoom
+      pub judges_no_room : b ≡ false → Judges above top ks ps m places left list₂ None
       judges_no_room f = record { is = rw left-same (sym (roomless f)); list = wiped }
 
       -- too long a path
-      pub judges_too_deep : longest_path < above + n.depth → Judges above top ks ps m places left list₂ NoRoom
+      pub judges_too_deep : longest_path < above + n.depth → Judges above top ks ps m places left list₂ None
       judges_too_deep h = record { is = rw left-same (sym (too-deep h)); list = wiped }
 
       -- built, and the old nodes released
-      module _ (sound : Sound above top m) (f : b ≡ true) (h : above + n.depth ≤ longest_path) (built : Built) (m₁ m₂ : Mem) (e : out built m₁ ≡ build longest_path ks ps left) (r : m₂ ≡ release longest_path m₁ top) where
+      module _ (sound : Sound above top m) (f : b ≡ true) (h : above + n.depth ≤ longest_path) (built : Option ℕ) (m₁ m₂ : Mem) (e : out built m₁ ≡ build longest_path ks ps left) (r : m₂ ≡ release longest_path m₁ top) where
         here : build longest_path ks ps m ≡ out built m₁
         here = ap (build longest_path ks ps) (sym left-same) ∙ sym e
 
-        has_place : (x : ℕ) × ((build longest_path ks ps m).built ≡ At x)
+        has_place : (x : ℕ) × ((build longest_path ks ps m).built ≡ Some x)
         has_place = fits_builds longest_path ks j.rising enough ps m (sym fits_is ∙ f)
 
-        placed_at : built ≡ At has_place.0
+        placed_at : built ≡ Some has_place.0
         placed_at = sym (ap (λ (x : Out). x.built) here) ∙ has_place.1
 
         releases : release longest_path m₁ top ≡ zeroed (nodes_below above top m) m₁
@@ -156,7 +155,7 @@ module _ (above top : ℕ) (ks ps : List ℕ) (m : Mem) (places : List ℕ) (j :
     pub left-sized : (used₂ : List ℕ) → used₂ ≡ m.used → Sized (mem m.nodes m.slots used₂)
     left-sized used₂ e = rw e (pooled_sized m j.pools)
 
-  pub built-sized : (m₀ m₁ : Mem) (b : Built) → Sized m₀ → out b m₁ ≡ build longest_path ks ps m₀ → Sized m₁
+  pub built-sized : (m₀ m₁ : Mem) (b : Option ℕ) → Sized m₀ → out b m₁ ≡ build longest_path ks ps m₀ → Sized m₁
   built-sized m₀ m₁ b s e =
       let f : m₁ ≡ (build longest_path ks ps m₀).memory = ap (λ (o : Out). o.memory) e in
       let x : length m₁.nodes ≡ length m₀.nodes = ap (λ (n : Mem). length n.nodes) f ∙ build-nodes-length longest_path ks ps m₀ in

@@ -1,4 +1,5 @@
 -- A rebuild: what was gathered is built in place, and all that was written to scratch is zeros again. Assumes nothing.
+use Rattle.std.specs.Prelude.{Option}
 use mathlib.Core.List.{List}
 use mathlib.Core.Path.{◌≡◌, ap, ◌∙◌}
 use Prim.Native.Nat.{ℕ, ◌-◌, ◌≤◌}
@@ -9,7 +10,6 @@ use Rattle.build.proofs.NodeSizes.{sizes-few}
 use Rattle.build.proofs.Undoing.{wiped-same}
 use Rattle.build.specs.Building.{out}
 use Rattle.build.specs.Sizes.{sizes_of}
-use Rattle.build.specs.declared.Built.{Built}
 use Rattle.pool.proofs.Sets.{sets_past}
 use Rattle.pool.specs.Memory.{Mem}
 use Rattle.rebuild.specs.Judging.{Judgeable, Sound, Judges, Gathers, Rebuildable}
@@ -73,7 +73,7 @@ module _ (capacity k p above top : ℕ) (m : Mem) (s : Scratch) (r : Rebuildable
           room = omega (arith, few, r.gather.room, r.places);
         })
 
-    pub rebuild_is : (m' : Mem) (places₁ keys₂ payloads₂ places₂ : List ℕ) (b : Built)
+    pub rebuild_is : (m' : Mem) (places₁ keys₂ payloads₂ places₂ : List ℕ) (b : Option ℕ)
         → Judges above top (take (n - 0) keys₁) (take (n - 0) payloads₁) m s.places m' places₁ b
         → keys₂ ≡ sets keys₁ 0 (replicate n 0) → payloads₂ ≡ sets payloads₁ 0 (replicate n 0) → places₂ ≡ sets places₁ 0 (replicate n 0)
         → rebuilt (out b m') (scratch keys₂ payloads₂ places₂) ≡ rebuild_of capacity k p above top m s

@@ -1,5 +1,6 @@
 -- Rebuilds computed: P4's root over its keys and key 1, with room and without, at the edge of the depth, and the readings that break a
 -- rule; and the two-key node of keys 0 and 1, placed and gone again. Assumes nothing.
+use Rattle.std.specs.Prelude.{None, Some}
 use mathlib.Core.Bool.{true, false}
 use mathlib.Core.List.{List, [], ◌∷◌, ◌++◌}
 use mathlib.Core.Path.{◌≡◌, refl}
@@ -8,7 +9,6 @@ use lib.ListN.{replicate}
 use Rattle.build.specs.Building.{lowest_record, lowest_slots, place_node, payloads_to, fill_slot, fill_slots, node_on, node_with, build, out}
 use Rattle.build.specs.Releasing.{drop_node, release_slot, release_slots, release_record, release}
 use Rattle.build.specs.Sizes.{depth_of, depth_under}
-use Rattle.build.specs.declared.Built.TheVariants.{At, NoRoom}
 use Rattle.listing.specs.Listing.{listing}
 use Rattle.marks.specs.Used.{used_at, mark_at, clear_at, mark_run, clear_run, free_run, full_run, first_from, first_unused, lowest_from, lowest_run}
 use Rattle.model.specs.Choice.{slots_for, count_at, spread_below, spread, model_at, least_from, t_of, empty_model, model_of}
@@ -65,12 +65,12 @@ abbrev zeros_to : ℕ → Scratch
 zeros_to n = scratch (replicate n 0 ++ replicate (8 - n) 9) (replicate n 0 ++ replicate (8 - n) 9) (replicate n 0 ++ replicate (8 - n) 9)
 
 -- with room for all three nodes
-root-rebuilt : rebuild_of 8 1 7 0 0 before (zeros_to 0) ≡ rebuilt (out (At 3) after) (zeros_to 7)
+root-rebuilt : rebuild_of 8 1 7 0 0 before (zeros_to 0) ≡ rebuilt (out (Some 3) after) (zeros_to 7)
 unfolding rebuild_of rebuild_over wiped in_place swapped afresh payloads_with keys_with upper_live lower_live live_items listing items may_enter may_hold events_of events_at in_record in_slots in_slot first_in last_in count_in node_at node_fits node_in slot_at slot_says slot_of in_range used_at full_run mark_at mark_run clear_at clear_run first_from first_unused free_run lowest_from lowest_run slots_for count_at spread_below spread model_at least_from t_of empty_model model_of keys_to put_node put_data put_child zero_record zero_run lowest_record lowest_slots place_node payloads_to fill_slot fill_slots node_on node_with build depth_of depth_under drop_node nodes_met nodes_below zeroed
 root-rebuilt = refl
 
 -- one slot too few: the memory stays, and 7 places of scratch are zeros
-without_room : rebuild_of 8 1 7 0 0 (free 21 20) (zeros_to 0) ≡ rebuilt (out NoRoom (free 21 20)) (zeros_to 7)
+without_room : rebuild_of 8 1 7 0 0 (free 21 20) (zeros_to 0) ≡ rebuilt (out None (free 21 20)) (zeros_to 7)
 unfolding rebuild_of rebuild_over wiped in_place swapped afresh payloads_with keys_with upper_live lower_live live_items listing items may_enter may_hold events_of events_at in_record in_slots in_slot first_in last_in count_in node_at node_fits node_in slot_at slot_says slot_of in_range used_at full_run mark_at mark_run first_from first_unused free_run lowest_from lowest_run slots_for count_at spread_below spread model_at least_from t_of empty_model model_of keys_to put_node put_data put_child zero_run lowest_record lowest_slots place_node payloads_to fill_slot fill_slots node_on node_with build depth_of depth_under
 without_room = refl
 
@@ -81,7 +81,7 @@ keys = 0 ∷ 1 ∷ 100 ∷ 101 ∷ 102 ∷ 10000 ∷ 20000 ∷ []
 abbrev payloads : List ℕ
 payloads = 1 ∷ 7 ∷ 2 ∷ 3 ∷ 4 ∷ 5 ∷ 6 ∷ []
 
-depth_edge : (in_place 22 (nodes_below 22 0 before) keys payloads before ≡ out (At 3) after) × (in_place 23 (nodes_below 23 0 before) keys payloads before ≡ out NoRoom before)
+depth_edge : (in_place 22 (nodes_below 22 0 before) keys payloads before ≡ out (Some 3) after) × (in_place 23 (nodes_below 23 0 before) keys payloads before ≡ out None before)
 unfolding in_place swapped afresh node_at node_fits node_in slot_at slot_says slot_of in_range used_at mark_at mark_run clear_at clear_run first_from first_unused free_run lowest_from lowest_run slots_for count_at spread_below spread model_at least_from t_of empty_model model_of keys_to put_node put_data put_child zero_record zero_run lowest_record lowest_slots place_node payloads_to fill_slot fill_slots node_on node_with build depth_of depth_under drop_node nodes_met nodes_below zeroed events_of events_at in_record in_slots in_slot count_in last_in first_in
 depth_edge = (refl, refl)
 
@@ -100,9 +100,9 @@ paired =
     p4 (0 ∷ 2 ∷ 4 ∷ 20 ∷ 2 ∷ 2 ∷ 0 ∷ 0 ∷ replicate 16 0) (0 ∷ 0 ∷ key 0 ∷ 1 ∷ key 1 ∷ 7 ∷ 0 ∷ 0 ∷ nulls 18) ((15 + (2 ^ 24 - 1) * 2 ^ 6) ∷ [])
 
 pair :
-    (pair_if true 0 1 1 7 before ≡ out (At 3) paired)
-    × (pair_if true 1 7 0 1 before ≡ out (At 3) paired)
-    × (pair_if false 0 1 1 7 before ≡ out (At 0) before)
+    (pair_if true 0 1 1 7 before ≡ out (Some 3) paired)
+    × (pair_if true 1 7 0 1 before ≡ out (Some 3) paired)
+    × (pair_if false 0 1 1 7 before ≡ out (Some 0) before)
     × (pair_gone true 3 paired ≡ before)
 unfolding pair_if pair_of pair_gone node_at node_fits node_in slot_at slot_says slot_of in_range used_at mark_at mark_run clear_at clear_run first_from first_unused free_run lowest_from lowest_run slots_for count_at spread_below spread model_at least_from t_of empty_model model_of keys_to put_node put_data put_child zero_record zero_run lowest_record lowest_slots place_node payloads_to fill_slot fill_slots node_on node_with build drop_node node_alone zeroed
 pair = (refl, refl, refl, refl)

@@ -1,5 +1,6 @@
 -- A subtree in which no rule of a rebuild is broken was read without damage, and reads the same in a memory that has grown. So its release
 -- zeroes just the nodes that were read, also once new nodes have their places. Assumes nothing.
+use Rattle.std.specs.Prelude.{Err, Ok, Result}
 use mathlib.Core.Bool.{true}
 use mathlib.Core.List.{List, [], ◌∷◌, ◌++◌}
 use mathlib.Core.Path.{◌≡◌, ap, ◌∙◌}
@@ -10,10 +11,8 @@ use Rattle.pool.proofs.Growth.{Grows}
 use Rattle.pool.specs.Memory.{Mem, records_in}
 use Rattle.pool.specs.Reading.{node_at, slot_at}
 use Rattle.pool.specs.declared.Node.{Node}
-use Rattle.pool.specs.declared.Record.{Record}
-use Rattle.pool.specs.declared.Record.TheVariants.{Good, Broken}
 use Rattle.pool.specs.declared.Slot.{Slot}
-use Rattle.pool.specs.declared.Slot.TheVariants.{Null, Data, Child, Broken as BrokenSlot}
+use Rattle.pool.specs.declared.Slot.TheVariants.{Null, Data, Child}
 use Rattle.rebuild.specs.Rebuilding.{rebuild_rules, sound_below}
 use Rattle.rebuild.specs.Zeroing.{Met, nodes_below, zeroed}
 use Rattle.rebuild.proofs.Grown.{live_unbroken, grown-nodes, grown-sound}
@@ -27,6 +26,7 @@ use Rattle.walk.specs.declared.Event.TheVariants.{Enter, Element, Damage, End}
 use Rattle.walk.specs.declared.Rules.{Rules}
 use Rattle.walk.specs.declared.Span.{Span}
 use Rattle.walk.specs.declared.Span.TheVariants.{Whole}
+use Rattle.pool.specs.declared.Rule.{Rule}
 
 -- no end stands among the events of a reading
 abbrev Endless : List Event → Type 0
@@ -44,12 +44,12 @@ endless_both (Damage c ∷ es) fs a b = endless_both es fs a b
 endless_both (End ∷ es) fs a b = absurd a
 
 module _ (m : Mem) (deeper : ℕ → List Event) (below : (c : ℕ) → Endless (deeper c)) where
-  slot_endless : (q : ℕ) (s : Slot) → Endless (in_slot deeper q s)
+  slot_endless : (q : ℕ) (s : Result Slot Rule) → Endless (in_slot deeper q s)
   unfolding in_slot
-  slot_endless q Null = tt
-  slot_endless q (Data k) = tt
-  slot_endless q (Child c) = below c
-  slot_endless q (BrokenSlot c) = tt
+  slot_endless q (Ok Null) = tt
+  slot_endless q (Ok (Data k)) = tt
+  slot_endless q (Ok (Child c)) = below c
+  slot_endless q (Err c) = tt
 
   slots_endless : (n : Node) (count j : ℕ) → Endless (in_slots deeper m n count j)
   unfolding in_slots
@@ -59,15 +59,15 @@ module _ (m : Mem) (deeper : ℕ → List Event) (below : (c : ℕ) → Endless 
       (slot_endless (n.start + j) (slot_at m.slots n j))
       (slots_endless n count (j + 1))
 
-  record_endless : (s : Span) (r : ℕ) (x : Record) → Endless (in_record s deeper m r x)
+  record_endless : (s : Span) (r : ℕ) (x : Result Node Rule) → Endless (in_record s deeper m r x)
   unfolding in_record
-  record_endless s r (Good n) = slots_endless n (count_in s n.model) (first_in s n.model)
-  record_endless s r (Broken c) = tt
+  record_endless s r (Ok n) = slots_endless n (count_in s n.model) (first_in s n.model)
+  record_endless s r (Err c) = tt
 
-long_endless : (x : Record) → Endless (too_long x)
+long_endless : (x : Result Node Rule) → Endless (too_long x)
 unfolding too_long
-long_endless (Good n) = tt
-long_endless (Broken c) = tt
+long_endless (Ok n) = tt
+long_endless (Err c) = tt
 
 events_endless : (s : Span) (m : Mem) (d r : ℕ) → Endless (events_at s m d r)
 unfolding events_at

@@ -1,5 +1,6 @@
 -- Memory without some of its nodes: it hangs only on which they are, and each record and slot reads as before or, if it was theirs, as
 -- nothing. Assumes nothing.
+use Rattle.std.specs.Prelude.{Err, Ok}
 use mathlib.Core.List.{List, [], ◌∷◌, ◌++◌}
 use mathlib.Core.Logic.{◌⊎◌, inl, inr, ⊎_elim}
 use mathlib.Core.Bool.{false}
@@ -20,12 +21,12 @@ use Rattle.pool.proofs.RecordStores.{length-zero_record}
 use Rattle.pool.proofs.RunStores.{length-zero_run}
 use Rattle.pool.proofs.Slots.{child-word, child-reads}
 use Rattle.pool.specs.Memory.{Mem, records_in, slot_place}
-use Rattle.pool.specs.Reading.{unused_record, node_at, slot_at}
+use Rattle.pool.specs.Reading.{node_at, slot_at}
 use Rattle.pool.specs.declared.Node.{Node}
-use Rattle.pool.specs.declared.Record.TheVariants.{Broken}
 use Rattle.pool.specs.declared.Slot.TheVariants.{Null, Child}
 use Rattle.rebuild.specs.Zeroing.{Met, zeroed}
 use Rattle.rebuild.proofs.Dropping.{drop-swap, drop_twice}
+use Rattle.pool.specs.declared.Rule.TheVariants.{UnusedRecord}
 
 -- a node is one of several
 abbrev pub In : Met → List Met → Type 0
@@ -108,7 +109,7 @@ gone x [] m h = absurd h
 gone x (a ∷ xs) m (inl e) = rw e (clear-same _ a.at)
 gone x (a ∷ xs) m (inr h) = (drop_frees (zeroed xs m) a.at a.node).unused x.at (gone x xs m h)
 
-pub record_gone : (x : Met) (xs : List Met) (m : Mem) → In x xs → x.at < records_in m.nodes → node_at (zeroed xs m) x.at ≡ Broken unused_record
+pub record_gone : (x : Met) (xs : List Met) (m : Mem) → In x xs → x.at < records_in m.nodes → node_at (zeroed xs m) x.at ≡ Err UnusedRecord
 record_gone x xs m h inside = reads_unmarked (zeroed xs m) x.at (rw (zeroed_frees xs m).nodes inside) (gone x xs m h)
 
 -- every other record reads as it did
@@ -146,7 +147,7 @@ pub record Emptied (xs : List Met) (n : Node) (j : ℕ) : Type 0 where
 -- so it reads as NULL; every other slot reads as it did
 drop-slot : (m : Mem) (a : Met) (n : Node) (j : ℕ)
     → (slot_at (without a m).slots n j ≡ slot_at m.slots n j)
-    ⊎ ((slot_at (without a m).slots n j ≡ Null) × (a.node.start ≤ n.start + j) × (n.start + j < a.node.start + a.node.model.l))
+    ⊎ ((slot_at (without a m).slots n j ≡ Ok Null) × (a.node.start ≤ n.start + j) × (n.start + j < a.node.start + a.node.model.l))
 unfolding drop_node
 drop-slot m a n j =
     let s = a.node.start in
@@ -160,7 +161,7 @@ drop-slot m a n j =
     (le_or_lt s (n.start + j))
 
 pub zeroed-slot : (xs : List Met) (m : Mem) (n : Node) (j : ℕ)
-    → (slot_at (zeroed xs m).slots n j ≡ slot_at m.slots n j) ⊎ ((slot_at (zeroed xs m).slots n j ≡ Null) × Emptied xs n j)
+    → (slot_at (zeroed xs m).slots n j ≡ slot_at m.slots n j) ⊎ ((slot_at (zeroed xs m).slots n j ≡ Ok Null) × Emptied xs n j)
 unfolding zeroed
 zeroed-slot [] m n j = inl refl
 zeroed-slot (a ∷ xs) m n j =
@@ -173,7 +174,7 @@ zeroed-slot (a ∷ xs) m n j =
     (drop-slot (zeroed xs m) a n j)
 
 -- a child in a slot is one for every node that has the slot
-pub child_elsewhere : (ss : List ℕ) (n b : Node) (j i c : ℕ) → n.start + j ≡ b.start + i → slot_at ss n j ≡ Child c → slot_at ss b i ≡ Child c
+pub child_elsewhere : (ss : List ℕ) (n b : Node) (j i c : ℕ) → n.start + j ≡ b.start + i → slot_at ss n j ≡ Ok (Child c) → slot_at ss b i ≡ Ok (Child c)
 child_elsewhere ss n b j i c e h =
     let w = child-word ss n j c h in
     child-reads ss b i c (record { word = rw e at w.word; small = w.small })

@@ -1,10 +1,9 @@
 -- What the rebuilding code asks of the keys and the memory, and what it leaves: the definition's answer and memory, and the list of
 -- places with zeros where the sizes were judged. Definitions only.
-use Rattle.std.specs.Prelude.{true, List, ◌≡◌, ℕ, ◌+◌, ◌*◌, ◌^◌, ◌<◌, ◌≤◌, length, replicate}
+use Rattle.std.specs.Prelude.{true, List, ◌≡◌, ℕ, ◌+◌, ◌*◌, ◌^◌, ◌<◌, ◌≤◌, length, replicate, Option}
 use Rattle.std.proofs.lemmas.List.Edits.{sets}
 use Rattle.build.specs.Building.{out}
 use Rattle.build.specs.Sizes.{sizes_of}
-use Rattle.build.specs.declared.Built.{Built}
 use Rattle.laws.specs.Keys.{key_bound, Rising}
 use Rattle.model.specs.Choice.{most_keys}
 use Rattle.pool.specs.Memory.{Mem, records_in, slots_in}
@@ -33,7 +32,7 @@ pub record Sound (above top : ℕ) (m : Mem) : Type 0 where
   pub key : ℕ
   pub sound : sound_below capacity key above top m ≡ true
 
-pub record Judges (above top : ℕ) (ks ps : List ℕ) (m : Mem) (places : List ℕ) (m' : Mem) (places' : List ℕ) (b : Built) : Type 0 where
+pub record Judges (above top : ℕ) (ks ps : List ℕ) (m : Mem) (places : List ℕ) (m' : Mem) (places' : List ℕ) (b : Option ℕ) : Type 0 where
   pub is : out b m' ≡ in_place above (nodes_below above top m) ks ps m
   pub list : places' ≡ sets places 0 (replicate (length (sizes_of longest_path ks)) 0)
 

@@ -1,8 +1,7 @@
 -- The two-key node of a conflict (document 01, "Insert": "a two-key node takes the slot"), built over the key that was there and the
 -- new one as every node is. Definitions only.
-use Rattle.std.specs.Prelude.{Bool, true, [], ◌∷◌, ◌≡◌, ℕ, ◌<◌, ltb}
+use Rattle.std.specs.Prelude.{Bool, true, [], ◌∷◌, ◌≡◌, ℕ, ◌<◌, ltb, Some}
 use Rattle.build.specs.Building.{Out, out, build}
-use Rattle.build.specs.declared.Built.TheVariants.{At}
 use Rattle.laws.specs.Keys.{key_bound}
 use Rattle.laws.specs.Pick.{pick}
 use Rattle.pool.specs.Memory.{Mem}
@@ -17,7 +16,7 @@ pair_of a p b q m =
 
 -- after a conflict; without one there is no such node, and nothing is stored
 unfoldable pub pair_if : Bool → ℕ → ℕ → ℕ → ℕ → Mem → Out
-pair_if conflict a p b q m = pick conflict (pair_of a p b q m) (out (At 0) m)
+pair_if conflict a p b q m = pick conflict (pair_of a p b q m) (out (Some 0) m)
 
 -- the two-key node at record c zeroed again
 unfoldable pub pair_gone : Bool → ℕ → Mem → Mem

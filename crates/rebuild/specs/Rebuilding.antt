@@ -1,12 +1,10 @@
 -- Rebuilding a subtree (document 01, "Insert"): "its subtree is built afresh over its live keys and replaces it", the new key among
 -- them. "In every rebuild the old nodes .. hold their places until the new ones have theirs; then they are released and zeroed."
 -- Definitions only.
-use Rattle.std.specs.Prelude.{Bool, true, List, ◌∷◌, ◌++◌, map, ℕ, ◌+◌, ◌-◌, leb, length, get_or, replicate}
+use Rattle.std.specs.Prelude.{Bool, true, List, ◌∷◌, ◌++◌, map, ℕ, ◌+◌, ◌-◌, leb, length, get_or, replicate, None, Option, Some}
 use Rattle.std.proofs.lemmas.List.Edits.{sets}
 use Rattle.build.specs.Building.{Out, out, build}
 use Rattle.build.specs.Sizes.{depth_of}
-use Rattle.build.specs.declared.Built.{Built}
-use Rattle.build.specs.declared.Built.TheVariants.{At, NoRoom}
 use Rattle.laws.specs.Keys.{key_bound}
 use Rattle.laws.specs.Pick.{pick}
 use Rattle.listing.specs.Listing.{Listing, listing}
@@ -55,12 +53,12 @@ payloads_with capacity k p above top m =
 
 -- the tree over the keys, whose path has `above` nodes before it: not where it "would make a path longer than 24"
 unfoldable pub afresh : ℕ → List ℕ → List ℕ → Mem → Out
-afresh above ks ps m = pick (leb (above + depth_of longest_path ks) longest_path) (build longest_path ks ps m) (out NoRoom m)
+afresh above ks ps m = pick (leb (above + depth_of longest_path ks) longest_path) (build longest_path ks ps m) (out None m)
 
 -- once the new nodes have their places the old ones are zeroed; without places nothing is stored
-unfoldable pub swapped : List Met → Mem → Built → Mem → Out
-swapped old m (At r) after = out (At r) (zeroed old after)
-swapped old m NoRoom after = out NoRoom m
+unfoldable pub swapped : List Met → Mem → Option ℕ → Mem → Out
+swapped old m (Some r) after = out (Some r) (zeroed old after)
+swapped old m None after = out None m
 
 abbrev pub swap : List Met → Mem → Out → Out
 swap old m o = swapped old m o.built o.memory

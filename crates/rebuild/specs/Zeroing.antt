@@ -1,15 +1,14 @@
 -- What becomes of nodes that a reading met (document 01, "Insert": the old nodes "are released and zeroed"): each of them loses its run and its
 -- record to zeros, and their marks. Definitions only.
-use Rattle.std.specs.Prelude.{List, [], ◌∷◌, ℕ}
+use Rattle.std.specs.Prelude.{List, [], ◌∷◌, ℕ, Err, Ok, Result}
 use Rattle.build.specs.Releasing.{drop_node}
 use Rattle.pool.specs.Memory.{Mem}
 use Rattle.pool.specs.declared.Node.{Node}
-use Rattle.pool.specs.declared.Record.{Record}
-use Rattle.pool.specs.declared.Record.TheVariants.{Good, Broken}
 use Rattle.walk.specs.Events.{events_of}
 use Rattle.walk.specs.declared.Event.{Event}
 use Rattle.walk.specs.declared.Event.TheVariants.{Enter, Element, Damage, End}
 use Rattle.walk.specs.declared.Span.TheVariants.{Whole}
+use Rattle.pool.specs.declared.Rule.{Rule}
 
 -- a node and the record that it was read from
 pub record Met : Type 0 where
@@ -32,9 +31,9 @@ unfoldable pub nodes_below : ℕ → ℕ → Mem → List Met
 nodes_below above top m = nodes_met (events_of Whole m above top)
 
 -- the node of record r by itself, if the record is good
-unfoldable pub node_alone : ℕ → Record → List Met
-node_alone r (Good n) = met_at r n ∷ []
-node_alone r (Broken c) = []
+unfoldable pub node_alone : ℕ → Result Node Rule → List Met
+node_alone r (Ok n) = met_at r n ∷ []
+node_alone r (Err c) = []
 
 -- the memory without them
 unfoldable pub zeroed : List Met → Mem → Mem

@@ -17,9 +17,10 @@ use Rattle.store.specs.Handles.{new_handle, pools_are, limits_hold, handle_fits}
 use Rattle.store.specs.declared.Handle.{Handle}
 use Rattle.walk.specs.Events.{first_in, last_in, count_in, in_slot, in_slots, in_record, too_long, events_at, events_of}
 use Rattle.walk.specs.Items.{may_enter, may_hold, items}
-use Rattle.walk.specs.Walks.{path_too_long, step_in, key_slot, step_good, step_at, step_of, after, walk_from, walk_of}
+use Rattle.walk.specs.Walks.{step_in, key_slot, step_good, step_at, step_of, after, walk_from, walk_of}
 use Rattle.walk.specs.declared.Event.TheVariants.{Enter, Damage}
 use Rattle.walk.specs.declared.Span.TheVariants.{Between}
+use Rattle.pool.specs.declared.Rule.TheVariants.{PathTooLong}
 
 -- the first words of a DATA and of a NODE slot
 abbrev key : ℕ → ℕ
@@ -76,7 +77,7 @@ refusals = (refl, refl, refl)
 endless : Mem
 endless = slot_two (child 0)
 
-path-ends : events_of (Between 22 22) endless 0 0 ≡ replicate 24 (Enter 0 root) ++ (Damage path_too_long ∷ [])
+path-ends : events_of (Between 22 22) endless 0 0 ≡ replicate 24 (Enter 0 root) ++ (Damage PathTooLong ∷ [])
 unfolding endless events_of events_at in_record too_long in_slots in_slot first_in last_in count_in node_at node_fits node_in slot_at slot_says slot_of in_range used_at
 path-ends = refl
 

@@ -1,5 +1,6 @@
 -- Laws of load: its tests, a law for each refusal, and that the sums of the build's sizes decide whether there is room, since
 -- the pools count as empty. Assumes nothing.
+use Rattle.std.specs.Prelude.{None, Option, Some}
 use mathlib.Core.Bool.{true, false}
 use mathlib.Core.List.{List}
 use mathlib.Core.Path.{◌≡◌, refl, sym, ap, ◌∙◌}
@@ -11,8 +12,6 @@ use lib.ListN.{length, length-replicate}
 use Rattle.build.proofs.Rooms.{empty_builds, builds_empty}
 use Rattle.build.specs.Building.{Out, out, build}
 use Rattle.build.specs.Hints.{Sized}
-use Rattle.build.specs.declared.Built.{Built}
-use Rattle.build.specs.declared.Built.TheVariants.{At, NoRoom as Roomless}
 use Rattle.laws.proofs.Tests.{and_both}
 use Rattle.model.proofs.Heights.{height-within}
 use Rattle.model.specs.Height.{height}
@@ -111,13 +110,13 @@ module _ (c : ℕ) (ks ps : List ℕ) (m : Mem) (l : Loadable ks ps m) where
         slots = omega (arith, zero_slots, l.slots);
       })
 
-  built_roomy : (r : ℕ) → (build longest_path ks ps (emptied m)).built ≡ At r → Roomy ks m
+  built_roomy : (r : ℕ) → (build longest_path ks ps (emptied m)).built ≡ Some r → Roomy ks m
   unfolding emptied
   built_roomy r e =
       let h = builds_empty longest_path ks l.rising enough ps (emptied m).nodes (emptied m).slots (length m.used) mapped r e in
       record { nodes = omega (arith, h.0, zero_records); slots = omega (arith, h.1, zero_slots) }
 
-  roomy_built : Roomy ks m → (r : ℕ) × ((build longest_path ks ps (emptied m)).built ≡ At r)
+  roomy_built : Roomy ks m → (r : ℕ) × ((build longest_path ks ps (emptied m)).built ≡ Some r)
   unfolding emptied
   roomy_built y =
       empty_builds longest_path ks l.rising enough ps (emptied m).nodes (emptied m).slots (length m.used) mapped
@@ -128,20 +127,20 @@ module _ (c : ℕ) (ks ps : List ℕ) (m : Mem) (l : Loadable ks ps m) where
   unfolding loaded load_tree load_built
   load-roomless lacks = go (build longest_path ks ps (emptied m)).built refl
     where
-      go : (b : Built) → (build longest_path ks ps (emptied m)).built ≡ b → loaded NoRoom m ≡ load_tree c ks ps m
-      go (At r) e = absurd (lacks (built_roomy r e))
-      go Roomless e = rw e
+      go : (b : Option ℕ) → (build longest_path ks ps (emptied m)).built ≡ b → loaded NoRoom m ≡ load_tree c ks ps m
+      go (Some r) e = absurd (lacks (built_roomy r e))
+      go None e = rw e
 
-  module _ (y : Roomy ks m) (b : Built) (after : Mem) (e : out b after ≡ build longest_path ks ps (emptied m)) where
-    pub load-done : (r : ℕ) (h : Handle) → b ≡ At r
+  module _ (y : Roomy ks m) (b : Option ℕ) (after : Mem) (e : out b after ≡ build longest_path ks ps (emptied m)) where
+    pub load-done : (r : ℕ) (h : Handle) → b ≡ Some r
         → h ≡ new_handle r (length ks) c (records_in m.nodes) (slots_in m.slots)
         → loaded (Done h) after ≡ load_tree c ks ps m
     unfolding loaded load_tree load_built
     load-done r h f g = rw (← e, f, g)
 
-    pub load_cannot : b ≡ Roomless → ⊥
+    pub load_cannot : b ≡ None → ⊥
     load_cannot f =
         let q = roomy_built y in
-        let a : b ≡ At q.0 = ap (λ (o : Out). o.built) e ∙ q.1 in
+        let a : b ≡ Some q.0 = ap (λ (o : Out). o.built) e ∙ q.1 in
         let z : ◌≡◌ {A = ℕ} 0 1 = cc in
         omega arith

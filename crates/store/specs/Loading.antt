@@ -1,11 +1,9 @@
 -- Load (document 01, "The calls": "takes rising keys with payloads, treats the pools as empty, and builds"), on every input: the
 -- answer, the handle and every lent word. Refusals: "1, 7, then the first place with 2 or 4 (2 wins at one place), 8"; a refused load
 -- gives zeros for its handle and changes nothing. Definitions only.
-use Rattle.std.specs.Prelude.{Bool, ◌&&◌, List, [], ◌∷◌, ◌≡◌, ℕ, ◌+◌, ◌≤◌, ltb, leb, eqb, length, replicate}
+use Rattle.std.specs.Prelude.{Bool, ◌&&◌, List, [], ◌∷◌, ◌≡◌, ℕ, ◌+◌, ◌≤◌, ltb, leb, eqb, length, replicate, None, Option, Some}
 use Rattle.build.specs.Building.{Out, build}
 use Rattle.build.specs.Sizes.{sizes_of, total}
-use Rattle.build.specs.declared.Built.{Built}
-use Rattle.build.specs.declared.Built.TheVariants.{At, NoRoom as Roomless}
 use Rattle.laws.specs.Answers.{done, refused, refused_with, wrong_sizes, out_of_range, not_rising, full, no_room}
 use Rattle.laws.specs.Keys.{key_bound, Rising}
 use Rattle.laws.specs.Pick.{pick}
@@ -39,10 +37,10 @@ load_fits capacity ks ps m =
     && (pools_are (records_in m.nodes) (slots_in m.slots) m && eqb (length ks) (length ps))
 
 -- what is made of a build onto empty pools
-unfoldable pub load_built : ℕ → ℕ → Mem → Built → Mem → Call
-load_built capacity count m (At r) after =
+unfoldable pub load_built : ℕ → ℕ → Mem → Option ℕ → Mem → Call
+load_built capacity count m (Some r) after =
     call (done []) (new_handle r count capacity (records_in m.nodes) (slots_in m.slots)) after
-load_built capacity count m Roomless after = call (refused no_room) no_handle m
+load_built capacity count m None after = call (refused no_room) no_handle m
 
 abbrev pub load_from : ℕ → ℕ → Mem → Out → Call
 load_from capacity count m o = load_built capacity count m o.built o.memory

@@ -1,6 +1,7 @@
 -- Reading a memory that has grown (pool's Growth): where a reading under the rules of a rebuild meets no broken rule, it enters used records
 -- alone, with runs that are wholly marked, so nothing of what it reads is another in the grown memory. Its events are the same, its items
 -- are, and every element lies in a slot that is marked. Assumes nothing.
+use Rattle.std.specs.Prelude.{Err, Ok, Result}
 use mathlib.Core.Bool.{true}
 use mathlib.Core.List.{List, [], ◌∷◌, ◌++◌, append-nil, append_assoc}
 use mathlib.Core.Path.{◌≡◌, refl, sym, ap, subst, subst⁻¹, ◌∙◌}
@@ -15,10 +16,8 @@ use Rattle.pool.proofs.Nodes.{good-node}
 use Rattle.pool.specs.Memory.{Mem, slots_in, slot_place}
 use Rattle.pool.specs.Reading.{node_at, slot_at}
 use Rattle.pool.specs.declared.Node.{Node}
-use Rattle.pool.specs.declared.Record.{Record}
-use Rattle.pool.specs.declared.Record.TheVariants.{Good, Broken as BrokenRecord}
 use Rattle.pool.specs.declared.Slot.{Slot}
-use Rattle.pool.specs.declared.Slot.TheVariants.{Null, Data, Child, Broken as BrokenSlot}
+use Rattle.pool.specs.declared.Slot.TheVariants.{Null, Data, Child}
 use Rattle.walk.specs.Events.{first_in, last_in, count_in, in_slot, in_slots, in_record, too_long, events_at, events_of}
 use Rattle.walk.specs.Items.{may_enter, may_hold, entered, holding, items}
 use Rattle.walk.specs.Walks.{longest_path}
@@ -31,6 +30,7 @@ use Rattle.walk.specs.declared.Span.{Span}
 use Rattle.walk.proofs.Elements.{Each, each_both}
 use Rattle.walk.proofs.Readings.{last_within}
 use Rattle.walk.proofs.Siftings.{enters_marked, enters_some}
+use Rattle.pool.specs.declared.Rule.{Rule}
 
 -- no rule is broken
 abbrev pub Unbroken : List Item → Type 0
@@ -82,12 +82,12 @@ module _ (m m' : Mem) (g : Grows m m') where
 
   -- the slots of a node, below each of which it is so
   module _ (deeper deeper' : ℕ → List Event) (below : (c : ℕ) (fs : List Event) → Goes (deeper c ++ fs) → Same (deeper' c) (deeper c) fs) where
-    slot-goes : (q : ℕ) → Marked m q → (x : Slot) (fs : List Event) → Goes (in_slot deeper q x ++ fs) → Same (in_slot deeper' q x) (in_slot deeper q x) fs
+    slot-goes : (q : ℕ) → Marked m q → (x : Result Slot Rule) (fs : List Event) → Goes (in_slot deeper q x ++ fs) → Same (in_slot deeper' q x) (in_slot deeper q x) fs
     unfolding in_slot
-    slot-goes q k Null fs h = record { same = refl; marked = tt; rest = h }
-    slot-goes q k (Data x) fs h = record { same = refl; marked = (k, tt); rest = element_goes q x fs h }
-    slot-goes q k (Child c) fs h = below c fs h
-    slot-goes q k (BrokenSlot c) fs h = absurd (damage-stops c fs h)
+    slot-goes q k (Ok Null) fs h = record { same = refl; marked = tt; rest = h }
+    slot-goes q k (Ok (Data x)) fs h = record { same = refl; marked = (k, tt); rest = element_goes q x fs h }
+    slot-goes q k (Ok (Child c)) fs h = below c fs h
+    slot-goes q k (Err c) fs h = absurd (damage-stops c fs h)
 
     slots_go : (n : Node) (count j : ℕ) → ((i : ℕ) → j ≤ i → i < j + count → Marked m (n.start + i))
         → (fs : List Event) → Goes (in_slots deeper m n count j ++ fs) → Same (in_slots deeper' m' n count j) (in_slots deeper m n count j) fs
@@ -105,10 +105,10 @@ module _ (m m' : Mem) (g : Grows m m') where
           rest = after.rest;
         }
 
-    record-goes : (s : Span) (r : ℕ) (x : Record) → node_at m r ≡ x → (fs : List Event) → Goes (in_record s deeper m r x ++ fs)
+    record-goes : (s : Span) (r : ℕ) (x : Result Node Rule) → node_at m r ≡ x → (fs : List Event) → Goes (in_record s deeper m r x ++ fs)
         → Same (in_record s deeper' m' r (node_at m' r)) (in_record s deeper m r x) fs
     unfolding in_record count_in
-    record-goes s r (Good n) e fs h =
+    record-goes s r (Ok n) e fs h =
         let good = good-node m r n e in
         let enter = enter_goes r n _ h in
         let last : last_in s n.model < n.model.l = last_within n.model s good.range in
@@ -120,12 +120,12 @@ module _ (m m' : Mem) (g : Grows m m') where
       where
         place : (i : ℕ) → slot_place m.nodes n.start + i ≡ slot_place m.nodes (n.start + i)
         place i = omega arith
-    record-goes s r (BrokenRecord c) e fs h = absurd (damage-stops c fs h)
+    record-goes s r (Err c) e fs h = absurd (damage-stops c fs h)
 
-  long-stops : (x : Record) (fs : List Event) → Goes (too_long x ++ fs) → ⊥
+  long-stops : (x : Result Node Rule) (fs : List Event) → Goes (too_long x ++ fs) → ⊥
   unfolding too_long
-  long-stops (Good n) fs h = damage-stops _ fs h
-  long-stops (BrokenRecord c) fs h = damage-stops c fs h
+  long-stops (Ok n) fs h = damage-stops _ fs h
+  long-stops (Err c) fs h = damage-stops c fs h
 
   events_go : (s : Span) (d r : ℕ) (fs : List Event) → Goes (events_at s m d r ++ fs) → Same (events_at s m' d r) (events_at s m d r) fs
   unfolding events_at

@@ -1,5 +1,6 @@
 -- The path that a walk leaves: at least the root and at most 24 records, each of which reads as a good node but for a last one
 -- that is damaged; and the array in which the code holds it. Assumes nothing.
+use Rattle.std.specs.Prelude.{Err, Ok, Result}
 use mathlib.Core.List.{List, [], ◌∷◌, ◌++◌}
 use mathlib.Core.Logic.{⊎_elim}
 use mathlib.Core.Path.{◌≡◌, refl, sym, ap, subst, ◌∙◌}
@@ -11,8 +12,6 @@ use Rattle.laws.proofs.Tests.{le_or_lt}
 use Rattle.pool.proofs.Nodes.{good-node}
 use Rattle.pool.specs.Memory.{Mem, records_in}
 use Rattle.pool.specs.Reading.{node_in, node_at}
-use Rattle.pool.specs.declared.Record.{Record}
-use Rattle.pool.specs.declared.Record.TheVariants.{Good, Broken}
 use Rattle.walk.specs.Walks.{longest_path, step_at, step_of, Walk, walk, after, path_of, walk_from, walk_of, trace_of}
 use Rattle.walk.specs.declared.End.{End}
 use Rattle.walk.specs.declared.End.TheVariants.{Empty, Key, Damage}
@@ -20,6 +19,8 @@ use Rattle.walk.specs.declared.Path.{Path}
 use Rattle.walk.specs.declared.Step.{Step}
 use Rattle.walk.specs.declared.Step.TheVariants.{Down, Stop}
 use Rattle.walk.specs.declared.Traced.{Traced}
+use Rattle.pool.specs.declared.Node.{Node}
+use Rattle.pool.specs.declared.Rule.{Rule}
 
 -- a walk ended without damage
 abbrev pub Undamaged : End → Type 0
@@ -29,7 +30,7 @@ Undamaged (Damage c) = ⊥
 
 -- record r reads as the node that its words say
 abbrev pub ReadsGood : Mem → ℕ → Type 0
-ReadsGood m r = node_at m r ≡ Good (node_in m.nodes r)
+ReadsGood m r = node_at m r ≡ Ok (node_in m.nodes r)
 
 abbrev pub AllGood : Mem → List ℕ → Type 0
 AllGood m p = (i : ℕ) → i < length p → ReadsGood m (get_or p i 0)
@@ -68,10 +69,10 @@ module _ (m : Mem) (k : ℕ) where
   Sound (Down c) = Unit
   Sound (Stop e) = Undamaged e
 
-  sound_read : (r : ℕ) (x : Record) → node_at m r ≡ x → Sound (step_at m k x) → ReadsGood m r
+  sound_read : (r : ℕ) (x : Result Node Rule) → node_at m r ≡ x → Sound (step_at m k x) → ReadsGood m r
   unfolding step_at
-  sound_read r (Good n) e s = e ∙ ap Good (good-node m r n e).is
-  sound_read r (Broken c) e s = absurd s
+  sound_read r (Ok n) e s = e ∙ ap Ok (good-node m r n e).is
+  sound_read r (Err c) e s = absurd s
 
   sound-step : (r : ℕ) (s : Step) → step_of m r k ≡ s → Sound s → ReadsGood m r
   unfolding step_of

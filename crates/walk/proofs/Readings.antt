@@ -1,5 +1,6 @@
 -- One step of a reading: what is left where a cursor stands, slot by slot, down to a child and up again, and for each way out of the
 -- code the step that it makes of what was left. Assumes nothing.
+use Rattle.std.specs.Prelude.{Err, Ok, Result}
 use mathlib.Core.List.{List, [], ◌∷◌, ◌++◌, append-nil, append_assoc}
 use mathlib.Core.Path.{◌≡◌, refl, sym, ap, ◌∙◌}
 use Prim.Native.Nat.{ℕ, zero, suc, ◌+◌, ◌-◌, ◌<◌, ◌≤◌}
@@ -15,20 +16,20 @@ use Rattle.pool.proofs.Slots.{null-reads, null_word, data-word}
 use Rattle.pool.specs.Memory.{Mem, kind_word, kind_unit, slots_in}
 use Rattle.pool.specs.Reading.{slot_at, node_at}
 use Rattle.pool.specs.declared.Node.{Node}
-use Rattle.pool.specs.declared.Record.{Record}
-use Rattle.pool.specs.declared.Record.TheVariants.{Good, Broken}
 use Rattle.pool.specs.declared.Slot.{Slot}
-use Rattle.pool.specs.declared.Slot.TheVariants.{Null, Data, Child, Broken as BrokenSlot}
+use Rattle.pool.specs.declared.Slot.TheVariants.{Null, Data, Child}
 use Rattle.walk.specs.Cursors.{frame_rest, above as above_of, remains, told}
 use Rattle.walk.specs.Events.{first_in, last_in, count_in, in_slot, in_slots, in_record, too_long, events_at, events_of}
 use Rattle.walk.specs.Moves.{below, Standing, Moves, Skipped}
-use Rattle.walk.specs.Walks.{longest_path, path_too_long}
+use Rattle.walk.specs.Walks.{longest_path}
 use Rattle.walk.specs.declared.Cursor.{Cursor}
 use Rattle.walk.specs.declared.Event.{Event}
 use Rattle.walk.specs.declared.Event.TheVariants.{Enter, Element, Damage, End}
 use Rattle.walk.specs.declared.Moved.{Moved}
 use Rattle.walk.specs.declared.Span.{Span}
 use Rattle.walk.specs.declared.Span.TheVariants.{Between, Whole}
+use Rattle.pool.specs.declared.Rule.{Rule}
+use Rattle.pool.specs.declared.Rule.TheVariants.{PathTooLong}
 
 -- the first and the last slot that a span takes
 pub first_between : (u v : ℕ) (m : Model) (s : Span) → Between u v ≡ s → slot_of m u ≡ first_in s m
@@ -67,7 +68,7 @@ module _ (deeper : ℕ → List Event) (m : Mem) (n : Node) (at end : ℕ) where
   null_adds_nothing h w = first_slot h ∙ rw (null-reads m.slots n at (omega arith))
 
 -- a slot whose kind is not NULL is none
-pub not_null : (ss : List ℕ) (n : Node) (at : ℕ) → kind_unit ≤ get_or ss (kind_word (n.start + at)) 0 → slot_at ss n at ≡ Null → ⊥
+pub not_null : (ss : List ℕ) (n : Node) (at : ℕ) → kind_unit ≤ get_or ss (kind_word (n.start + at)) 0 → slot_at ss n at ≡ Ok Null → ⊥
 not_null ss n at h e = omega (arith, null_word ss n at e)
 
 -- skipping NULL slots, from `at` on, as the loop goes: `same` holds up to j
@@ -107,17 +108,17 @@ module _ (s : Span) (m : Mem) (rs js : List ℕ) (i r j : ℕ) where
 
 -- what a record met gives
 module _ (s : Span) (m : Mem) (r : ℕ) where
-  broken_events : (d b : ℕ) → node_at m r ≡ Broken b → events_at s m d r ≡ Damage b ∷ []
+  broken_events : (d b : ℕ) → node_at m r ≡ Err b → events_at s m d r ≡ Damage b ∷ []
   unfolding events_at in_record too_long
   broken_events zero b e = rw e
   broken_events (suc d) b e = rw e
 
-  good_events : (d d' : ℕ) (n : Node) → d ≡ suc d' → node_at m r ≡ Good n
+  good_events : (d d' : ℕ) (n : Node) → d ≡ suc d' → node_at m r ≡ Ok n
       → events_at s m d r ≡ Enter r n ∷ in_slots (events_at s m d') m n (last_in s n.model + 1 - first_in s n.model) (first_in s n.model)
   unfolding events_at in_record count_in
   good_events d d' n f e = rw (f, e)
 
-  deep_events : (d : ℕ) (n : Node) → d ≡ 0 → node_at m r ≡ Good n → events_at s m d r ≡ Damage path_too_long ∷ []
+  deep_events : (d : ℕ) (n : Node) → d ≡ 0 → node_at m r ≡ Ok n → events_at s m d r ≡ Damage PathTooLong ∷ []
   unfolding events_at too_long
   deep_events d n f e = rw (f, e)
 
@@ -140,7 +141,7 @@ module _ (s : Span) (m : Mem) (over : ℕ) (c : Cursor) (rs js : List ℕ) where
   skipped at k = rw (k.same (events_at s m (below over c)) m c.node refl refl)
 
   -- its slot in front
-  at_slot : c.at < c.end → (x : Slot) → slot_at m.slots c.node c.at ≡ x
+  at_slot : c.at < c.end → (x : Result Slot Rule) → slot_at m.slots c.node c.at ≡ x
       → in_slot (events_at s m (below over c)) (c.node.start + c.at) x ++ remains s m (below over c) (past c) rs js ≡ remains s m (below over c) c rs js
   unfolding remains
   at_slot h x e =
@@ -150,38 +151,38 @@ module _ (s : Span) (m : Mem) (over : ℕ) (c : Cursor) (rs js : List ℕ) where
   past-stands st = record { reads = st.reads; ends = st.ends; deep = st.deep }
 
   module _ (st : Standing s m over c) (h : c.at < c.end) where
-    pub meets_element : (k : ℕ) → slot_at m.slots c.node c.at ≡ Data k
+    pub meets_element : (k : ℕ) → slot_at m.slots c.node c.at ≡ Ok (Data k)
         → Moves s m over (remains s m (below over c) c rs js) (moved (Element (c.node.start + c.at) k) (past c)) rs js
     unfolding told in_slot
     meets_element k e =
         record {
-          tells = at_slot h (Data k) e;
+          tells = at_slot h (Ok (Data k)) e;
           stands = (past-stands st, record { slot = slot-inside s m over c st h; key = (data-word m.slots c.node c.at k e).small });
         }
 
-    pub meets_broken-slot : (b : ℕ) → slot_at m.slots c.node c.at ≡ BrokenSlot b
+    pub meets_broken-slot : (b : ℕ) → slot_at m.slots c.node c.at ≡ Err b
         → Moves s m over (remains s m (below over c) c rs js) (moved (Damage b) (past c)) rs js
     unfolding told in_slot
-    meets_broken-slot b e = record { tells = at_slot h (BrokenSlot b) e; stands = tt }
+    meets_broken-slot b e = record { tells = at_slot h (Err b) e; stands = tt }
 
     -- a NODE slot: the child's record first, then the path's length
-    module _ (r : ℕ) (e : slot_at m.slots c.node c.at ≡ Child r) where
+    module _ (r : ℕ) (e : slot_at m.slots c.node c.at ≡ Ok (Child r)) where
       at_child : (es : List Event) → events_at s m (below over c) r ≡ es → es ++ remains s m (below over c) (past c) rs js ≡ remains s m (below over c) c rs js
       unfolding in_slot
-      at_child es f = rw (← f) (at_slot h (Child r) e)
+      at_child es f = rw (← f) (at_slot h (Ok (Child r)) e)
 
-      pub meets_broken-child : (b : ℕ) → node_at m r ≡ Broken b → Moves s m over (remains s m (below over c) c rs js) (moved (Damage b) (past c)) rs js
+      pub meets_broken-child : (b : ℕ) → node_at m r ≡ Err b → Moves s m over (remains s m (below over c) c rs js) (moved (Damage b) (past c)) rs js
       unfolding told
       meets_broken-child b f = record { tells = at_child (Damage b ∷ []) (broken_events s m r (below over c) b f); stands = tt }
 
-      pub meets_deep-child : (n : Node) → node_at m r ≡ Good n → longest_path ≤ over + c.depth + 1
-          → Moves s m over (remains s m (below over c) c rs js) (moved (Damage path_too_long) (past c)) rs js
+      pub meets_deep-child : (n : Node) → node_at m r ≡ Ok n → longest_path ≤ over + c.depth + 1
+          → Moves s m over (remains s m (below over c) c rs js) (moved (Damage PathTooLong) (past c)) rs js
       unfolding told
       meets_deep-child n f le =
-          record { tells = at_child (Damage path_too_long ∷ []) (deep_events s m r (below over c) n (omega arith) f); stands = tt }
+          record { tells = at_child (Damage PathTooLong ∷ []) (deep_events s m r (below over c) n (omega arith) f); stands = tt }
 
       -- down to the child: the node above it is where the cursor stood, past the slot
-      module _ (n : Node) (f : node_at m r ≡ Good n) (lt : over + c.depth + 1 < longest_path) (rl : c.depth < length rs) (jl : c.depth < length js) where
+      module _ (n : Node) (f : node_at m r ≡ Ok n) (lt : over + c.depth + 1 < longest_path) (rl : c.depth < length rs) (jl : c.depth < length js) where
         one_deeper : below over c ≡ longest_path - (over + (c.depth + 1) + 1) + 1
         one_deeper = omega arith
 
@@ -213,7 +214,7 @@ module _ (s : Span) (m : Mem) (over : ℕ) (c : Cursor) (rs js : List ℕ) where
       one_higher : longest_path - (over + (c.depth - 1) + 1) ≡ below over c + 1
       one_higher = omega arith
 
-      up : (x : Record) → node_at m r ≡ x → remains s m (below over c) c rs js
+      up : (x : Result Node Rule) → node_at m r ≡ x → remains s m (below over c) c rs js
           ≡ frame_rest s m (below over c + 1) x (get_or js (c.depth - 1) 0) ++ above_of s m rs js (c.depth - 1) (below over c + 1 + 1)
       unfolding remains above_of
       up x e =
@@ -221,19 +222,19 @@ module _ (s : Span) (m : Mem) (over : ℕ) (c : Cursor) (rs js : List ℕ) where
           rw (no_slots (events_at s m (below over c)) m c.node c.at c.end over-end)
           (ap (λ (k : ℕ). above_of s m rs js k (below over c + 1)) z ∙ rw (← er, e))
 
-      pub goes_up : (n : Node) (end : ℕ) → node_at m r ≡ Good n → end ≡ last_in s n.model + 1
+      pub goes_up : (n : Node) (end : ℕ) → node_at m r ≡ Ok n → end ≡ last_in s n.model + 1
           → remains s m (below over (stand r n (get_or js (c.depth - 1) 0) end (c.depth - 1))) (stand r n (get_or js (c.depth - 1) 0) end (c.depth - 1)) rs js ≡ remains s m (below over c) c rs js
       unfolding remains frame_rest
-      goes_up n end e q = rw (one_higher, q) (sym (up (Good n) e))
+      goes_up n end e q = rw (one_higher, q) (sym (up (Ok n) e))
 
-      pub meets_broken-above : (b : ℕ) (n : Node) → node_at m r ≡ Broken b
+      pub meets_broken-above : (b : ℕ) (n : Node) → node_at m r ≡ Err b
           → Moves s m over (remains s m (below over c) c rs js) (moved (Damage b) (stand r n 0 0 (c.depth - 1))) rs js
       unfolding told remains frame_rest in_slots
-      meets_broken-above b n e = record { tells = rw one_higher (sym (up (Broken b) e)); stands = tt }
+      meets_broken-above b n e = record { tells = rw one_higher (sym (up (Err b) e)); stands = tt }
 
 -- the first event of a reading
 module _ (s : Span) (m : Mem) (over r : ℕ) (rs js : List ℕ) (lt : over < longest_path) where
-  pub starts_good : (n : Node) (at end : ℕ) → node_at m r ≡ Good n → at ≡ first_in s n.model → end ≡ last_in s n.model + 1
+  pub starts_good : (n : Node) (at end : ℕ) → node_at m r ≡ Ok n → at ≡ first_in s n.model → end ≡ last_in s n.model + 1
       → Moves s m over (events_of s m over r) (moved (Enter r n) (stand r n at end 0)) rs js
   unfolding told events_of remains above_of
   starts_good n at end e p q =
@@ -243,6 +244,6 @@ module _ (s : Span) (m : Mem) (over r : ℕ) (rs js : List ℕ) (lt : over < lon
         stands = (record { reads = e; ends = q; deep = omega arith }, refl);
       }
 
-  pub starts_broken : (b : ℕ) (n : Node) → node_at m r ≡ Broken b → Moves s m over (events_of s m over r) (moved (Damage b) (stand r n 0 0 0)) rs js
+  pub starts_broken : (b : ℕ) (n : Node) → node_at m r ≡ Err b → Moves s m over (events_of s m over r) (moved (Damage b) (stand r n 0 0 0)) rs js
   unfolding told events_of remains above_of in_slots
   starts_broken b n e = record { tells = sym (broken_events s m r (longest_path - over) b e); stands = tt }

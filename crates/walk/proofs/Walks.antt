@@ -1,5 +1,6 @@
 -- Laws of following one key: what one node's slot says, and the two loops over nodes, one that counts them and one that keeps
 -- them. Each loop's own definition is stated here and joined to the walk of specs/Walks. Assumes nothing.
+use Rattle.std.specs.Prelude.{Err, Ok, Result}
 use mathlib.Core.List.{List, [], ◌∷◌, ◌++◌}
 use mathlib.Core.Path.{◌≡◌, refl, sym, ap, subst, ◌∙◌}
 use Prim.Native.Nat.{ℕ, zero, suc, ◌+◌, ◌-◌, ◌*◌, ◌<◌, ◌≤◌}
@@ -15,11 +16,9 @@ use Rattle.pool.proofs.Slots.{DataSlot, data_reads, data-word}
 use Rattle.pool.specs.Memory.{Mem, kind_word, data_kind, kind_unit, slots_in}
 use Rattle.pool.specs.Reading.{slot_at, node_at}
 use Rattle.pool.specs.declared.Node.{Node}
-use Rattle.pool.specs.declared.Record.{Record}
-use Rattle.pool.specs.declared.Record.TheVariants.{Good, Broken}
 use Rattle.pool.specs.declared.Slot.{Slot}
-use Rattle.pool.specs.declared.Slot.TheVariants.{Null, Data, Child, Broken as BrokenSlot}
-use Rattle.walk.specs.Walks.{longest_path, path_too_long, step_in, key_slot, step_good, step_at, step_of, Walk, after, path_of, walk_from, walk_of, follow_of, trace_of}
+use Rattle.pool.specs.declared.Slot.TheVariants.{Null, Data, Child}
+use Rattle.walk.specs.Walks.{longest_path, step_in, key_slot, step_good, step_at, step_of, Walk, after, path_of, walk_from, walk_of, follow_of, trace_of}
 use Rattle.walk.specs.declared.End.{End}
 use Rattle.walk.specs.declared.End.TheVariants.{Empty, Key, Damage}
 use Rattle.walk.specs.declared.Followed.{Followed}
@@ -27,11 +26,13 @@ use Rattle.walk.specs.declared.Path.{Path}
 use Rattle.walk.specs.declared.Step.{Step}
 use Rattle.walk.specs.declared.Step.TheVariants.{Down, Stop}
 use Rattle.walk.specs.declared.Traced.{Traced}
+use Rattle.pool.specs.declared.Rule.{Rule}
+use Rattle.pool.specs.declared.Rule.TheVariants.{PathTooLong}
 
 -- one good node, its slot j of the key and that slot's number q at hand
 module _ (ss : List ℕ) (n : Node) (k j q : ℕ) (ej : j ≡ slot_of n.model k) (eq : q ≡ n.start + j) where
   -- the slot says what it says
-  pub step-says : (s : Slot) → s ≡ slot_at ss n j → step_in q s ≡ step_good ss n k
+  pub step-says : (s : Result Slot Rule) → s ≡ slot_at ss n j → step_in q s ≡ step_good ss n k
   unfolding step_good key_slot
   step-says s e = rw (e, eq, ej)
 
@@ -40,18 +41,18 @@ module _ (ss : List ℕ) (n : Node) (k j q : ℕ) (ej : j ≡ slot_of n.model k)
   unfolding step_in
   step-found small w =
       let d : DataSlot ss n j k = record { word = rw (← eq) (w ∙ rw (one_unit k)); small = small; belongs = sym ej } in
-      step-says (Data k) (sym (data_reads ss n j k d))
+      step-says (Ok (Data k)) (sym (data_reads ss n j k d))
     where
       one_unit : (x : ℕ) → kind_unit + x ≡ data_kind * kind_unit + x
       one_unit x = omega arith
 
 -- one record
 module _ (m : Mem) (r k : ℕ) where
-  pub step-good : (n : Node) (s : Step) → node_at m r ≡ Good n → s ≡ step_good m.slots n k → s ≡ step_of m r k
+  pub step-good : (n : Node) (s : Step) → node_at m r ≡ Ok n → s ≡ step_good m.slots n k → s ≡ step_of m r k
   unfolding step_of step_at
   step-good n s e f = rw (e, f)
 
-  pub step-broken : (c : ℕ) → node_at m r ≡ Broken c → Stop (Damage c) ≡ step_of m r k
+  pub step-broken : (c : ℕ) → node_at m r ≡ Err c → Stop (Damage c) ≡ step_of m r k
   unfolding step_of step_at
   step-broken c e = rw e
 
@@ -61,7 +62,7 @@ count_on (Down c) v go = go c
 count_on (Stop e) v go = record { end = e; visits = v }
 
 unfoldable pub follow_from : Mem → ℕ → ℕ → ℕ → ℕ → Followed
-follow_from m k zero r v = record { end = Damage path_too_long; visits = v }
+follow_from m k zero r v = record { end = Damage PathTooLong; visits = v }
 follow_from m k (suc f) r v = count_on (step_of m r k) (v + 1) (λ c. follow_from m k f c (v + 1))
 
 abbrev counted : Walk → Followed
@@ -103,7 +104,7 @@ module _ (m : Mem) (k : ℕ) where
     unfolding count_on
     follow_stop x h e = rw (← e) at (one-node h)
 
-    pub follow_spent : longest_path ≤ v → record { end = Damage path_too_long; visits = v } ≡ whole
+    pub follow_spent : longest_path ≤ v → record { end = Damage PathTooLong; visits = v } ≡ whole
     unfolding follow_from
     follow_spent h =
         let e : longest_path - v ≡ 0 = omega arith in
@@ -118,7 +119,7 @@ keep_on (Down c) p go = go c
 keep_on (Stop e) p go = record { end = e; path = p }
 
 unfoldable pub trace_from : Mem → ℕ → ℕ → ℕ → Path → Traced
-trace_from m k zero r p = record { end = Damage path_too_long; path = p }
+trace_from m k zero r p = record { end = Damage PathTooLong; path = p }
 trace_from m k (suc f) r p = keep_on (step_of m r k) (push p r) (λ c. trace_from m k f c (push p r))
 
 abbrev kept : Walk → Traced
@@ -179,7 +180,7 @@ module _ (m : Mem) (k : ℕ) where
     unfolding keep_on
     trace_stop x h e = rw (← e) at (one_kept h)
 
-    pub trace_spent : longest_path ≤ p.len → record { end = Damage path_too_long; path = p } ≡ whole
+    pub trace_spent : longest_path ≤ p.len → record { end = Damage PathTooLong; path = p } ≡ whole
     unfolding trace_from
     trace_spent h =
         let e : longest_path - p.len ≡ 0 = omega arith in
@@ -206,19 +207,19 @@ EndIn n (Key q k) = (q < n) × (k < key_bound)
 EndIn n (Damage c) = Unit
 
 module _ (m : Mem) (k : ℕ) where
-  slot-in : (n : Node) (j q : ℕ) (s : Slot) → slot_at m.slots n j ≡ s → q < slots_in m.slots → StepIn (slots_in m.slots) (step_in q s)
+  slot-in : (n : Node) (j q : ℕ) (s : Result Slot Rule) → slot_at m.slots n j ≡ s → q < slots_in m.slots → StepIn (slots_in m.slots) (step_in q s)
   unfolding step_in
-  slot-in n j q Null e h = h
-  slot-in n j q (Data x) e h = (h, (data-word m.slots n j x e).small)
-  slot-in n j q (Child c) e h = tt
-  slot-in n j q (BrokenSlot c) e h = tt
+  slot-in n j q (Ok Null) e h = h
+  slot-in n j q (Ok (Data x)) e h = (h, (data-word m.slots n j x e).small)
+  slot-in n j q (Ok (Child c)) e h = tt
+  slot-in n j q (Err c) e h = tt
 
-  record_in : (r : ℕ) (x : Record) → node_at m r ≡ x → StepIn (slots_in m.slots) (step_at m k x)
+  record_in : (r : ℕ) (x : Result Node Rule) → node_at m r ≡ x → StepIn (slots_in m.slots) (step_at m k x)
   unfolding step_at step_good key_slot
-  record_in r (Good n) e =
+  record_in r (Ok n) e =
       let g = good-node m r n e in
       slot-in n (slot_of n.model k) (n.start + slot_of n.model k) (slot_at m.slots n (slot_of n.model k)) refl (omega (arith, g.fits, slot_under n.model g.range k))
-  record_in r (Broken c) e = tt
+  record_in r (Err c) e = tt
 
   after_in : (n : ℕ) (s : Step) (p : List ℕ) (go : ℕ → Walk) → StepIn n s → ((c : ℕ) → EndIn n (go c).end) → EndIn n (after s p go).end
   unfolding after

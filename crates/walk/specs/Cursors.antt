@@ -1,20 +1,20 @@
 -- A reading as the code makes it, one step after the other: what a cursor has still to meet. The cursor holds the node it reads;
 -- the nodes above it within the reading stand in two lent lists, record and next slot of each. Definitions only.
-use Rattle.std.specs.Prelude.{List, [], ◌∷◌, ◌++◌, ℕ, zero, suc, ◌+◌, ◌-◌, get_or}
+use Rattle.std.specs.Prelude.{List, [], ◌∷◌, ◌++◌, ℕ, zero, suc, ◌+◌, ◌-◌, get_or, Err, Ok, Result}
 use Rattle.pool.specs.Memory.{Mem}
 use Rattle.pool.specs.Reading.{node_at}
-use Rattle.pool.specs.declared.Record.{Record}
-use Rattle.pool.specs.declared.Record.TheVariants.{Good, Broken}
 use Rattle.walk.specs.Events.{last_in, in_slots, events_at}
 use Rattle.walk.specs.declared.Cursor.{Cursor}
 use Rattle.walk.specs.declared.Event.{Event}
 use Rattle.walk.specs.declared.Event.TheVariants.{Enter, Element, Damage, End}
 use Rattle.walk.specs.declared.Span.{Span}
+use Rattle.pool.specs.declared.Node.{Node}
+use Rattle.pool.specs.declared.Rule.{Rule}
 
 -- what a node above has still to give: its slots from j on, with d nodes left on the path below it
-unfoldable pub frame_rest : Span → Mem → ℕ → Record → ℕ → List Event
-frame_rest s m d (Good n) j = in_slots (events_at s m d) m n (last_in s n.model + 1 - j) j
-frame_rest s m d (Broken c) j = Damage c ∷ []
+unfoldable pub frame_rest : Span → Mem → ℕ → Result Node Rule → ℕ → List Event
+frame_rest s m d (Ok n) j = in_slots (events_at s m d) m n (last_in s n.model + 1 - j) j
+frame_rest s m d (Err c) j = Damage c ∷ []
 
 -- the n nodes above, the nearest first; the nearest has d nodes left below it
 unfoldable pub above : Span → Mem → List ℕ → List ℕ → ℕ → ℕ → List Event

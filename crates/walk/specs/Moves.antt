@@ -1,11 +1,10 @@
 -- What the cursor's functions promise and ask, in the code's own way: which keys a span may have, where a cursor may stand, and what
 -- one step tells of what was left. The events and items themselves are those of Events, Cursors and Items. Definitions only.
-use Rattle.std.specs.Prelude.{List, [], ◌∷◌, ◌≡◌, ℕ, ◌+◌, ◌-◌, ◌<◌, ◌≤◌, get_or}
+use Rattle.std.specs.Prelude.{List, [], ◌∷◌, ◌≡◌, ℕ, ◌+◌, ◌-◌, ◌<◌, ◌≤◌, get_or, Ok}
 use Rattle.laws.specs.Keys.{key_bound}
 use Rattle.pool.specs.Memory.{Mem, kind_word, kind_unit, slots_in}
 use Rattle.pool.specs.Reading.{node_at}
 use Rattle.pool.specs.declared.Node.{Node}
-use Rattle.pool.specs.declared.Record.TheVariants.{Good}
 use Rattle.walk.specs.Cursors.{remains, told}
 use Rattle.walk.specs.Events.{last_in, in_slots}
 use Rattle.walk.specs.Items.{items}
@@ -32,7 +31,7 @@ below above c = longest_path - (above + c.depth + 1)
 
 -- a cursor stands in the node that its record holds, ends past the span's last slot, and is not too deep
 pub record Standing (s : Span) (m : Mem) (above : ℕ) (c : Cursor) : Type 0 where
-  pub reads : node_at m c.record ≡ Good c.node
+  pub reads : node_at m c.record ≡ Ok c.node
   pub ends : c.end ≡ last_in s c.node.model + 1
   pub deep : above + c.depth + 1 ≤ longest_path
 

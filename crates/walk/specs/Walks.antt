@@ -1,15 +1,13 @@
 -- Following one key from the root (document 01, "The calls": "Lookup follows slots from the root"): the nodes on its path, and
 -- what stands at the end, on every memory. Definitions only.
-use Rattle.std.specs.Prelude.{List, [], ◌∷◌, ◌++◌, ℕ, zero, suc, ◌+◌, length, replicate}
+use Rattle.std.specs.Prelude.{List, [], ◌∷◌, ◌++◌, ℕ, zero, suc, ◌+◌, length, replicate, Err, Ok, Result}
 use Rattle.std.proofs.lemmas.List.Edits.{sets}
 use Rattle.model.specs.Slots.{value_of, slot_of}
 use Rattle.pool.specs.Memory.{Mem}
 use Rattle.pool.specs.Reading.{node_at, slot_at}
 use Rattle.pool.specs.declared.Node.{Node}
-use Rattle.pool.specs.declared.Record.{Record}
-use Rattle.pool.specs.declared.Record.TheVariants.{Good, Broken}
 use Rattle.pool.specs.declared.Slot.{Slot}
-use Rattle.pool.specs.declared.Slot.TheVariants.{Null, Data, Child, Broken as BrokenSlot}
+use Rattle.pool.specs.declared.Slot.TheVariants.{Null, Data, Child}
 use Rattle.walk.specs.declared.End.{End}
 use Rattle.walk.specs.declared.End.TheVariants.{Empty, Key, Damage}
 use Rattle.walk.specs.declared.Followed.{Followed}
@@ -17,21 +15,19 @@ use Rattle.walk.specs.declared.Path.{Path}
 use Rattle.walk.specs.declared.Step.{Step}
 use Rattle.walk.specs.declared.Step.TheVariants.{Down, Stop}
 use Rattle.walk.specs.declared.Traced.{Traced}
+use Rattle.pool.specs.declared.Rule.{Rule}
+use Rattle.pool.specs.declared.Rule.TheVariants.{PathTooLong}
 
 -- "A path has at most 24 nodes, the root being the first"
 abbrev pub longest_path : ℕ
 longest_path = 24
 
--- the sixth rule, after the five of reading a record or a slot: a path past 24 nodes
-abbrev pub path_too_long : ℕ
-path_too_long = 6
-
 -- what slot q says to a walk: go down, or stop
-unfoldable pub step_in : ℕ → Slot → Step
-step_in q Null = Stop (Empty q)
-step_in q (Data k) = Stop (Key q k)
-step_in q (Child c) = Down c
-step_in q (BrokenSlot c) = Stop (Damage c)
+unfoldable pub step_in : ℕ → Result Slot Rule → Step
+step_in q (Ok Null) = Stop (Empty q)
+step_in q (Ok (Data k)) = Stop (Key q k)
+step_in q (Ok (Child c)) = Down c
+step_in q (Err c) = Stop (Damage c)
 
 -- the slot of a key in a node, among all slots
 unfoldable pub key_slot : Node → ℕ → ℕ
@@ -41,9 +37,9 @@ key_slot n k = n.start + slot_of n.model (value_of k)
 unfoldable pub step_good : List ℕ → Node → ℕ → Step
 step_good ss n k = step_in (key_slot n k) (slot_at ss n (slot_of n.model (value_of k)))
 
-unfoldable pub step_at : Mem → ℕ → Record → Step
-step_at m k (Good n) = step_good m.slots n k
-step_at m k (Broken c) = Stop (Damage c)
+unfoldable pub step_at : Mem → ℕ → Result Node Rule → Step
+step_at m k (Ok n) = step_good m.slots n k
+step_at m k (Err c) = Stop (Damage c)
 
 unfoldable pub step_of : Mem → ℕ → ℕ → Step
 step_of m r k = step_at m k (node_at m r)
@@ -66,7 +62,7 @@ path_of p = record { nodes = sets (replicate longest_path 0) 0 p; len = length p
 
 -- from record r on, after the nodes of p, with f nodes left
 unfoldable pub walk_from : Mem → ℕ → ℕ → ℕ → List ℕ → Walk
-walk_from m k zero r p = walk (Damage path_too_long) p
+walk_from m k zero r p = walk (Damage PathTooLong) p
 walk_from m k (suc f) r p = after (step_of m r k) (p ++ (r ∷ [])) (λ c. walk_from m k f c (p ++ (r ∷ [])))
 
 unfoldable pub walk_of : Mem → ℕ → ℕ → Walk

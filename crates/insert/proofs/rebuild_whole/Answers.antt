@@ -1,7 +1,7 @@
 -- `insert::rebuild_whole` meets its contract, way by way (proofs/Tidies). Assumes nothing.
+use Rattle.std.specs.Prelude.{None}
 use mathlib.Core.Path.{◌≡◌, sym, ◌∙◌}
 use native.Mathlib.Omega.{arith}
-use Rattle.build.specs.declared.Built.TheVariants.{NoRoom}
 use Rattle.insert.proofs.Tidies.{ready_rebuildable, whole-damage, whole-done, whole-roomless}
 use Rattle.insert.proofs.rebuild_whole.Goals as goal
 
@@ -17,5 +17,5 @@ returns-in-At c = whole-done _ _ _ _ _ _ (sym c.is_sound.ensures ∙ c.if-not-is
 
 pub returns-in-NoRoom : goal.returns-in-NoRoom
 returns-in-NoRoom c =
-    let e : c.rebuild.result ≡ NoRoom = cc in
+    let e : c.rebuild.result ≡ None = cc in
     whole-roomless _ _ _ _ _ _ (sym c.is_sound.ensures ∙ c.if-not-is_sound.false) _ _ _ c.rebuild.ensures e c.refuse-in-NoRoom.ensures

@@ -1,7 +1,7 @@
 -- `insert::settle` meets its contract, way by way (proofs/Tidies). Assumes nothing.
+use Rattle.std.specs.Prelude.{None}
 use mathlib.Core.Path.{◌≡◌, sym, ◌∙◌}
 use native.Mathlib.Omega.{arith}
-use Rattle.build.specs.declared.Built.TheVariants.{NoRoom}
 use Rattle.counters.proofs.Dues.{due_among}
 use Rattle.counters.proofs.Traces.{on_path_stays}
 use Rattle.insert.proofs.Leaves.{above_within}
@@ -17,7 +17,7 @@ slot_above-above-requires c =
 
 pub returns-in_default : goal.returns-in_default
 returns-in_default c =
-    let e : c.build_pair.result ≡ NoRoom = cc in
+    let e : c.build_pair.result ≡ None = cc in
     settle-roomless _ _ _ _ _ _ _ _ _ _ c.due_at-at.ensures (sym c.sound_due.ensures ∙ c.if-not-sound_due.false) _ c.slot_above-above.ensures _ _ c.build_pair.ensures _ c.refuse-in_default.ensures c.requires.ends.pair e
 
 pub tidy-requires : goal.tidy-requires

@@ -1,9 +1,9 @@
 -- `store::load_afresh` meets its contract: the pools are zeros, so the build is the definition's, and it has room (proofs/Loads).
 -- Assumes nothing.
+use Rattle.std.specs.Prelude.{None}
 use mathlib.Core.Path.{◌≡◌, ◌∙◌, ap}
 use native.Mathlib.Omega.{arith}
 use Rattle.build.specs.Building.{build}
-use Rattle.build.specs.declared.Built.TheVariants.{NoRoom}
 use Rattle.pool.specs.Memory.{Mem}
 use Rattle.walk.specs.Walks.{longest_path}
 use Rattle.store.proofs.Loads.{empty-sized, load-done, load_cannot}
@@ -23,6 +23,6 @@ returns-in-At c =
 pub returns-in-NoRoom : goal.returns-in-NoRoom
 returns-in-NoRoom c =
     let g = c.build_node-g in
-    let e : g.result.built ≡ NoRoom = cc in
+    let e : g.result.built ≡ None = cc in
     absurd (load_cannot 0 _ _ _ c.requires.loadable c.requires.roomy g.result.built _
     (g.ensures.is ∙ ap (λ (m : Mem). build longest_path c.args.keys.now c.args.payloads.now m) c.empty_pools.ensures) e)

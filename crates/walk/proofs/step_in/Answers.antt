@@ -1,4 +1,5 @@
 -- `walk::step_in` meets its contract: the key found at once, or what the slot says (proofs/Walks). Assumes nothing.
+use Rattle.std.specs.Prelude.{Ok}
 use mathlib.Core.Path.{◌≡◌, refl, sym, ◌∙◌}
 use native.Mathlib.Omega.{arith}
 use Rattle.pool.specs.declared.Slot.TheVariants.{Null}
@@ -13,8 +14,8 @@ returns-then-slots-q c =
 pub returns-in-Null : goal.returns-in-Null
 unfolding step_in
 returns-in-Null c =
-    let e : c.slot_at.result ≡ Null = cc in
-    step-says _ _ _ c.slot_of-j.result _ c.slot_of-j.ensures.0 refl Null (sym e ∙ c.slot_at.ensures)
+    let e : c.slot_at.result ≡ Ok Null = cc in
+    step-says _ _ _ c.slot_of-j.result _ c.slot_of-j.ensures.0 refl (Ok Null) (sym e ∙ c.slot_at.ensures)
 
 pub returns-in-Data : goal.returns-in-Data
 unfolding step_in

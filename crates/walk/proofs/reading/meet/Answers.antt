@@ -1,4 +1,5 @@
 -- `walk::reading::meet` meets its contract, way by way (proofs/Readings). Assumes nothing.
+use Rattle.std.specs.Prelude.{Ok}
 use mathlib.Core.Path.{◌≡◌, sym, ◌∙◌}
 use native.Mathlib.Omega.{arith}
 use Rattle.pool.proofs.Nodes.{good-node}
@@ -29,5 +30,5 @@ returns-in-Broken c =
 
 pub returns-in-Null : goal.returns-in-Null
 returns-in-Null c =
-    let e : Null ≡ c.slot_at.result = cc in
+    let e : (Ok Null) ≡ c.slot_at.result = cc in
     absurd (not_null _ _ _ c.requires.kind_unit_bound (sym c.slot_at.ensures ∙ sym e))
