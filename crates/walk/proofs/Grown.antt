@@ -76,7 +76,7 @@ module _ (m m' : Mem) (g : Grows m m') where
       (λ t. (entered-full m h.rules n h.rebuild t, record { rules = entered h.rules; rebuild = h.rebuild; unbroken = rw t at h.unbroken }))
       (λ t. absurd (rw t at h.unbroken))
 
-  damage-stops : (c : ℕ) (fs : List Event) → Goes (Damage c ∷ fs) → ⊥
+  damage-stops : (c : Rule) (fs : List Event) → Goes (Damage c ∷ fs) → ⊥
   unfolding items
   damage-stops c fs h = h.unbroken
 

@@ -108,7 +108,7 @@ module _ (s : Span) (m : Mem) (rs js : List ℕ) (i r j : ℕ) where
 
 -- what a record met gives
 module _ (s : Span) (m : Mem) (r : ℕ) where
-  broken_events : (d b : ℕ) → node_at m r ≡ Err b → events_at s m d r ≡ Damage b ∷ []
+  broken_events : (d : ℕ) (b : Rule) → node_at m r ≡ Err b → events_at s m d r ≡ Damage b ∷ []
   unfolding events_at in_record too_long
   broken_events zero b e = rw e
   broken_events (suc d) b e = rw e
@@ -160,7 +160,7 @@ module _ (s : Span) (m : Mem) (over : ℕ) (c : Cursor) (rs js : List ℕ) where
           stands = (past-stands st, record { slot = slot-inside s m over c st h; key = (data-word m.slots c.node c.at k e).small });
         }
 
-    pub meets_broken-slot : (b : ℕ) → slot_at m.slots c.node c.at ≡ Err b
+    pub meets_broken-slot : (b : Rule) → slot_at m.slots c.node c.at ≡ Err b
         → Moves s m over (remains s m (below over c) c rs js) (moved (Damage b) (past c)) rs js
     unfolding told in_slot
     meets_broken-slot b e = record { tells = at_slot h (Err b) e; stands = tt }
@@ -171,7 +171,7 @@ module _ (s : Span) (m : Mem) (over : ℕ) (c : Cursor) (rs js : List ℕ) where
       unfolding in_slot
       at_child es f = rw (← f) (at_slot h (Ok (Child r)) e)
 
-      pub meets_broken-child : (b : ℕ) → node_at m r ≡ Err b → Moves s m over (remains s m (below over c) c rs js) (moved (Damage b) (past c)) rs js
+      pub meets_broken-child : (b : Rule) → node_at m r ≡ Err b → Moves s m over (remains s m (below over c) c rs js) (moved (Damage b) (past c)) rs js
       unfolding told
       meets_broken-child b f = record { tells = at_child (Damage b ∷ []) (broken_events s m r (below over c) b f); stands = tt }
 
@@ -227,7 +227,7 @@ module _ (s : Span) (m : Mem) (over : ℕ) (c : Cursor) (rs js : List ℕ) where
       unfolding remains frame_rest
       goes_up n end e q = rw (one_higher, q) (sym (up (Ok n) e))
 
-      pub meets_broken-above : (b : ℕ) (n : Node) → node_at m r ≡ Err b
+      pub meets_broken-above : (b : Rule) (n : Node) → node_at m r ≡ Err b
           → Moves s m over (remains s m (below over c) c rs js) (moved (Damage b) (stand r n 0 0 (c.depth - 1))) rs js
       unfolding told remains frame_rest in_slots
       meets_broken-above b n e = record { tells = rw one_higher (sym (up (Err b) e)); stands = tt }
@@ -244,6 +244,6 @@ module _ (s : Span) (m : Mem) (over r : ℕ) (rs js : List ℕ) (lt : over < lon
         stands = (record { reads = e; ends = q; deep = omega arith }, refl);
       }
 
-  pub starts_broken : (b : ℕ) (n : Node) → node_at m r ≡ Err b → Moves s m over (events_of s m over r) (moved (Damage b) (stand r n 0 0 0)) rs js
+  pub starts_broken : (b : Rule) (n : Node) → node_at m r ≡ Err b → Moves s m over (events_of s m over r) (moved (Damage b) (stand r n 0 0 0)) rs js
   unfolding told events_of remains above_of in_slots
   starts_broken b n e = record { tells = sym (broken_events s m r (longest_path - over) b e); stands = tt }

@@ -10,6 +10,7 @@ use Rattle.laws.proofs.Tests.{and_both}
 use Rattle.laws.specs.Keys.{key_bound}
 use Rattle.marks.specs.Used.{full_run}
 use Rattle.pool.proofs.Nodes.{good-node}
+use Rattle.pool.specs.declared.Rule.{Rule}
 use Rattle.pool.specs.Memory.{Mem, slot_place, slots_in}
 use Rattle.pool.specs.declared.Node.{Node}
 use Rattle.walk.specs.Cursors.{remains, told}
@@ -115,7 +116,7 @@ module _ (s : Span) (m : Mem) (over : ℕ) (ru : Rules) (c : Cursor) (rs js : Li
   unfolding told items met
   finds_held q k e f st ru' g = record { tells = rw (e, f, g); stands = subst (λ (y : Event). Stands s m over y c) e st }
 
-  pub finds_damage : (b : ℕ) → x ≡ Damage b → Finds s m over ru (told x (remains s m (below over c) c rs js)) (next Broken ru c) rs js
+  pub finds_damage : (b : Rule) → x ≡ Damage b → Finds s m over ru (told x (remains s m (below over c) c rs js)) (next Broken ru c) rs js
   unfolding told items met
   finds_damage b e = record { tells = rw e; stands = tt }
 

@@ -52,7 +52,7 @@ module _ (m : Mem) (r k : ℕ) where
   unfolding step_of step_at
   step-good n s e f = rw (e, f)
 
-  pub step-broken : (c : ℕ) → node_at m r ≡ Err c → Stop (Damage c) ≡ step_of m r k
+  pub step-broken : (c : Rule) → node_at m r ≡ Err c → Stop (Damage c) ≡ step_of m r k
   unfolding step_of step_at
   step-broken c e = rw e
 

@@ -7,7 +7,7 @@ ghost use Rattle.model.specs.Slots.{InRange};
 ghost use Rattle.pool.specs.Memory.{mem, slots_in};
 ghost use Rattle.walk.specs.Walks.{longest_path, path_of, step_good, step_of, follow_of, trace_of};
 
-use pool::{Node, Record, Slot};
+use pool::{Node, Rule, Slot};
 
 pub mod reading;
 
@@ -16,11 +16,7 @@ pub mod reading;
 pub enum End {
     Empty(usize),
     Key(usize, u64),
-    Damage(u8),
-}
-
-impl End {
-    pub const PATH_TOO_LONG: u8 = 6;
+    Damage(Rule),
 }
 
 // One node of a walk: down to a child, or the end.
@@ -81,7 +77,7 @@ pub enum Span {
 pub enum Event {
     Enter(usize, Node),
     Element(usize, u64),
-    Damage(u8),
+    Damage(Rule),
     End,
 }
 
@@ -144,10 +140,10 @@ fn step_in(slots: &[u64], n: Node, key: u64) -> Step
         return Step::Stop(End::Key(q, key));
     }
     match pool::slot_at(slots, n, j) {
-        Slot::Null => Step::Stop(End::Empty(q)),
-        Slot::Data(k) => Step::Stop(End::Key(q, k)),
-        Slot::Child(c) => Step::Down(c),
-        Slot::Broken(b) => Step::Stop(End::Damage(b)),
+        Ok(Slot::Null) => Step::Stop(End::Empty(q)),
+        Ok(Slot::Data(k)) => Step::Stop(End::Key(q, k)),
+        Ok(Slot::Child(c)) => Step::Down(c),
+        Err(rule) => Step::Stop(End::Damage(rule)),
     }
 }
 
@@ -157,8 +153,8 @@ pub fn step_at(nodes: &[u64], slots: &[u64], used: &[u64], r: usize, key: u64) -
     ensures { result ≡ step_of (mem nodes.now slots.now used.now) r key }
 {
     match pool::node_at(nodes, slots, used, r) {
-        Record::Good(n) => step_in(slots, n, key),
-        Record::Broken(b) => Step::Stop(End::Damage(b)),
+        Ok(n) => step_in(slots, n, key),
+        Err(rule) => Step::Stop(End::Damage(rule)),
     }
 }
 
@@ -181,7 +177,7 @@ pub fn follow(nodes: &[u64], slots: &[u64], used: &[u64], root: usize, key: u64)
         }
     }
     Followed {
-        end: End::Damage(End::PATH_TOO_LONG),
+        end: End::Damage(Rule::PathTooLong),
         visits,
     }
 }
@@ -199,13 +195,13 @@ pub fn trace(nodes: &[u64], slots: &[u64], used: &[u64], root: usize, key: u64) 
         path.nodes[at] = r;
         path.len = at + 1;
         match pool::node_at(nodes, slots, used, r) {
-            Record::Broken(b) => {
+            Err(rule) => {
                 return Traced {
-                    end: End::Damage(b),
+                    end: End::Damage(rule),
                     path,
                 };
             }
-            Record::Good(n) => {
+            Ok(n) => {
                 match step_in(slots, n, key) {
                     Step::Down(c) => {
                         r = c;
@@ -218,7 +214,7 @@ pub fn trace(nodes: &[u64], slots: &[u64], used: &[u64], root: usize, key: u64) 
         }
     }
     Traced {
-        end: End::Damage(End::PATH_TOO_LONG),
+        end: End::Damage(Rule::PathTooLong),
         path,
     }
 }

@@ -11,9 +11,9 @@ ghost use Rattle.walk.specs.Items.{may_enter, may_hold, entered, holding};
 ghost use Rattle.walk.specs.Moves.{SpanFits, Standing, Stands, Moves, Skipped, Finds, below};
 ghost use Rattle.walk.specs.Walks.{longest_path};
 
-use crate::{Cursor, End, Event, Item, Moved, Next, Path, Rules, Span};
+use crate::{Cursor, Event, Item, Moved, Next, Path, Rules, Span};
 use model::Model;
-use pool::{Node, Record, Slot};
+use pool::{Node, Rule, Slot};
 
 // The first slot that a reading takes in a node, and the one past its last.
 fn first_in(span: Span, m: Model) -> usize
@@ -68,7 +68,7 @@ pub fn start(
         (events_of span (mem nodes.now slots.now used.now) above r) result rs js }
 {
     match pool::node_at(nodes, slots, used, r) {
-        Record::Good(n) => {
+        Ok(n) => {
             let m = n.model;
             let at = first_in(span, m);
             let end = past_last(span, m);
@@ -83,8 +83,8 @@ pub fn start(
                 },
             }
         }
-        Record::Broken(b) => Moved {
-            event: Event::Damage(b),
+        Err(rule) => Moved {
+            event: Event::Damage(rule),
             cursor: Cursor {
                 record: r,
                 node: Node {
@@ -114,7 +114,7 @@ fn descend(
     requires span_fits { SpanFits span }
     requires standing { Standing span (mem nodes.now slots.now used.now) above c }
     requires at_lt_end { c.at < c.end }
-    requires at_value { slot_at slots.now c.node c.at ≡ Slot.Child r }
+    requires at_value { slot_at slots.now c.node c.at ≡ Ok (Slot.Child r) }
     requires longest_path_in_bounds { (longest_path ≤ length records.old) × (longest_path ≤ length places.old) }
     ensures { Moves span (mem nodes.now slots.now used.now) above
         (remains span (mem nodes.now slots.now used.now) (below above c) c records.old places.old)
@@ -124,15 +124,15 @@ fn descend(
     let mut past = c;
     past.at = slot;
     match pool::node_at(nodes, slots, used, r) {
-        Record::Broken(b) => Moved {
-            event: Event::Damage(b),
+        Err(rule) => Moved {
+            event: Event::Damage(rule),
             cursor: past,
         },
-        Record::Good(n) => {
+        Ok(n) => {
             let depth = c.depth;
             if Path::LONGEST <= above + depth + 1 {
                 return Moved {
-                    event: Event::Damage(End::PATH_TOO_LONG),
+                    event: Event::Damage(Rule::PathTooLong),
                     cursor: past,
                 };
             }
@@ -180,16 +180,16 @@ fn meet(
     let mut past = c;
     past.at = at + 1;
     match pool::slot_at(slots, n, at) {
-        Slot::Data(k) => Moved {
+        Ok(Slot::Data(k)) => Moved {
             event: Event::Element(n.start + at, k),
             cursor: past,
         },
-        Slot::Child(r) => descend(nodes, slots, used, span, above, c, r, records, places),
-        Slot::Broken(b) => Moved {
-            event: Event::Damage(b),
+        Ok(Slot::Child(r)) => descend(nodes, slots, used, span, above, c, r, records, places),
+        Err(rule) => Moved {
+            event: Event::Damage(rule),
             cursor: past,
         },
-        Slot::Null => Moved {
+        Ok(Slot::Null) => Moved {
             event: Event::End,
             cursor: past,
         },
@@ -232,7 +232,7 @@ pub fn next(
         let depth = c.depth - 1;
         let r = records[depth];
         match pool::node_at(nodes, slots, used, r) {
-            Record::Good(n) => {
+            Ok(n) => {
                 let m = n.model;
                 let end = past_last(span, m);
                 c = Cursor {
@@ -243,9 +243,9 @@ pub fn next(
                     depth,
                 };
             }
-            Record::Broken(b) => {
+            Err(rule) => {
                 return Moved {
-                    event: Event::Damage(b),
+                    event: Event::Damage(rule),
                     cursor: Cursor {
                         record: r,
                         node: n,

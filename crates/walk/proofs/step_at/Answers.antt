@@ -6,13 +6,13 @@ use Rattle.walk.proofs.step_at.Goals as goal
 
 pub step_in-requires : goal.step_in-requires
 step_in-requires c =
-    let g = good-node _ _ _ (sym c.in-Good.ensures) in
+    let g = good-node _ _ _ (sym c.in-Ok.ensures) in
     record { key_lt_key_bound = c.requires; in_range = g.range; l_bound = g.fits }
 
-pub returns-in-Good : goal.returns-in-Good
-returns-in-Good c =
-    step-good _ _ _ _ _ (sym c.in-Good.ensures) c.step_in.ensures
+pub returns-in-Ok : goal.returns-in-Ok
+returns-in-Ok c =
+    step-good _ _ _ _ _ (sym c.in-Ok.ensures) c.step_in.ensures
 
-pub returns-in-Broken : goal.returns-in-Broken
-returns-in-Broken c =
-    step-broken _ _ _ _ (sym c.in-Broken.ensures)
+pub returns-in-Err : goal.returns-in-Err
+returns-in-Err c =
+    step-broken _ _ _ _ (sym c.in-Err.ensures)

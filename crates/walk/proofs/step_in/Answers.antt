@@ -11,23 +11,23 @@ pub returns-then-slots-q : goal.returns-then-slots-q
 returns-then-slots-q c =
     step-found _ _ _ c.slot_of-j.result _ c.slot_of-j.ensures.0 refl (omega arith) c.if-slots-q.true
 
-pub returns-in-Null : goal.returns-in-Null
+pub returns-in-Ok-Null : goal.returns-in-Ok-Null
 unfolding step_in
-returns-in-Null c =
+returns-in-Ok-Null c =
     let e : c.slot_at.result ≡ Ok Null = cc in
     step-says _ _ _ c.slot_of-j.result _ c.slot_of-j.ensures.0 refl (Ok Null) (sym e ∙ c.slot_at.ensures)
 
-pub returns-in-Data : goal.returns-in-Data
+pub returns-in-Ok-Data : goal.returns-in-Ok-Data
 unfolding step_in
-returns-in-Data c =
-    step-says _ _ _ c.slot_of-j.result _ c.slot_of-j.ensures.0 refl _ (c.in-Data.ensures)
+returns-in-Ok-Data c =
+    step-says _ _ _ c.slot_of-j.result _ c.slot_of-j.ensures.0 refl _ (rw c.in-Ok-Data.field-0-is at c.in-Ok-Data.ensures)
 
-pub returns-in-Child : goal.returns-in-Child
+pub returns-in-Ok-Child : goal.returns-in-Ok-Child
 unfolding step_in
-returns-in-Child c =
-    step-says _ _ _ c.slot_of-j.result _ c.slot_of-j.ensures.0 refl _ (c.in-Child.ensures)
+returns-in-Ok-Child c =
+    step-says _ _ _ c.slot_of-j.result _ c.slot_of-j.ensures.0 refl _ (rw c.in-Ok-Child.field-0-is at c.in-Ok-Child.ensures)
 
-pub returns-in-Broken : goal.returns-in-Broken
+pub returns-in-Err : goal.returns-in-Err
 unfolding step_in
-returns-in-Broken c =
-    step-says _ _ _ c.slot_of-j.result _ c.slot_of-j.ensures.0 refl _ (c.in-Broken.ensures)
+returns-in-Err c =
+    step-says _ _ _ c.slot_of-j.result _ c.slot_of-j.ensures.0 refl _ (c.in-Err.ensures)

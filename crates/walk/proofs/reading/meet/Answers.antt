@@ -18,17 +18,17 @@ overflow_add-result c = omega (arith, slot-inside _ _ _ _ c.requires.standing c.
 pub descend-requires : goal.descend-requires
 descend-requires c =
     let p = c.requires in
-    record { span_fits = p.span_fits; standing = p.standing; at_lt_end = p.at_lt_end; at_value = sym c.in-Child.ensures; longest_path_in_bounds = p.longest_path_in_bounds }
+    record { span_fits = p.span_fits; standing = p.standing; at_lt_end = p.at_lt_end; at_value = sym (rw c.in-Ok-Child.field-0-is at c.in-Ok-Child.ensures); longest_path_in_bounds = p.longest_path_in_bounds }
 
-pub returns-in-Data : goal.returns-in-Data
-returns-in-Data c =
-    meets_element _ _ _ _ _ _ c.requires.standing c.requires.at_lt_end _ (sym c.in-Data.ensures)
+pub returns-in-Ok-Data : goal.returns-in-Ok-Data
+returns-in-Ok-Data c =
+    meets_element _ _ _ _ _ _ c.requires.standing c.requires.at_lt_end _ (sym (rw c.in-Ok-Data.field-0-is at c.in-Ok-Data.ensures))
 
-pub returns-in-Broken : goal.returns-in-Broken
-returns-in-Broken c =
-    meets_broken-slot _ _ _ _ _ _ c.requires.standing c.requires.at_lt_end _ (sym c.in-Broken.ensures)
+pub returns-in-Err : goal.returns-in-Err
+returns-in-Err c =
+    meets_broken-slot _ _ _ _ _ _ c.requires.standing c.requires.at_lt_end _ (sym c.in-Err.ensures)
 
-pub returns-in-Null : goal.returns-in-Null
-returns-in-Null c =
+pub returns-in-Ok-Null : goal.returns-in-Ok-Null
+returns-in-Ok-Null c =
     let e : (Ok Null) ≡ c.slot_at.result = cc in
     absurd (not_null _ _ _ c.requires.kind_unit_bound (sym c.slot_at.ensures ∙ sym e))

@@ -31,7 +31,7 @@ bounds-records-depth c = omega (arith, c.loop-n.invariant, c.requires.longest_pa
 
 pub past_last-end-requires : goal.past_last-end-requires
 past_last-end-requires c =
-    let g = good-node _ _ _ (sym c.in-Good.ensures) in
+    let g = good-node _ _ _ (sym c.in-Ok.ensures) in
     record { in_range = g.range; span_fits = c.requires.span_fits }
 
 pub bounds-places-depth : goal.bounds-places-depth
@@ -40,13 +40,13 @@ bounds-places-depth c = omega (arith, c.loop-n.invariant, c.requires.longest_pat
 pub loop-n-preserved : goal.loop-n-preserved
 loop-n-preserved c =
     let l = c.loop-n in
-    let e = sym c.in-Good.ensures in
+    let e = sym c.in-Ok.ensures in
     let q = c.past_last-end.ensures in (
       record { reads = e; ends = q; deep = omega (arith, l.invariant.0.deep) },
       (l.invariant.1.0, goes_up _ _ _ _ _ _ c.if-at-end.false l.invariant.0.deep c.if-c-lt1.false _ refl _ _ e q ∙ skipped _ _ _ l.c _ _ c.skip_null-at.result c.skip_null-at.ensures ∙ l.invariant.1.1),
     )
 
-pub returns-in-Broken : goal.returns-in-Broken
-returns-in-Broken c =
-    let e = sym c.in-Broken.ensures in
+pub returns-in-Err : goal.returns-in-Err
+returns-in-Err c =
+    let e = sym c.in-Err.ensures in
     moves_from (skipped _ _ _ c.loop-n.c _ _ c.skip_null-at.result c.skip_null-at.ensures ∙ c.loop-n.invariant.1.1) (meets_broken-above _ _ _ _ _ _ c.if-at-end.false c.loop-n.invariant.0.deep c.if-c-lt1.false _ refl _ _ e)

@@ -6,18 +6,18 @@ use Rattle.walk.proofs.reading.start.Goals as goal
 
 pub first_in-at-requires : goal.first_in-at-requires
 first_in-at-requires c =
-    let g = good-node _ _ _ (sym c.in-Good.ensures) in
+    let g = good-node _ _ _ (sym c.in-Ok.ensures) in
     record { in_range = g.range; span_fits = c.requires.span_fits }
 
 pub past_last-end-requires : goal.past_last-end-requires
 past_last-end-requires c =
-    let g = good-node _ _ _ (sym c.in-Good.ensures) in
+    let g = good-node _ _ _ (sym c.in-Ok.ensures) in
     record { in_range = g.range; span_fits = c.requires.span_fits }
 
-pub returns-in-Good : goal.returns-in-Good
-returns-in-Good c = λ rs js.
-    starts_good _ _ _ _ rs js c.requires.above_lt_longest_path _ _ _ (sym c.in-Good.ensures) c.first_in-at.ensures c.past_last-end.ensures
+pub returns-in-Ok : goal.returns-in-Ok
+returns-in-Ok c = λ rs js.
+    starts_good _ _ _ _ rs js c.requires.above_lt_longest_path _ _ _ (sym c.in-Ok.ensures) c.first_in-at.ensures c.past_last-end.ensures
 
-pub returns-in-Broken : goal.returns-in-Broken
-returns-in-Broken c = λ rs js.
-    starts_broken _ _ _ _ rs js c.requires.above_lt_longest_path _ _ (sym c.in-Broken.ensures)
+pub returns-in-Err : goal.returns-in-Err
+returns-in-Err c = λ rs js.
+    starts_broken _ _ _ _ rs js c.requires.above_lt_longest_path _ _ (sym c.in-Err.ensures)
