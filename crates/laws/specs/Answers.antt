@@ -1,6 +1,7 @@
 -- Document 01, "Numbers of the answers". An answer is its number and what is returned besides; a crate says of each case of
 -- its enums which answer it is. Definitions only.
-use Rattle.std.specs.Prelude.{List, [], ℕ}
+use Rattle.std.specs.Prelude.{Bool, List, [], ℕ}
+use Rattle.laws.specs.Pick.{pick}
 
 pub record Answer (A : Type 0) : Type 0 where
   pub number : ℕ
@@ -17,6 +18,10 @@ refused n = record { number = n; values = [] }
 -- refused, with something besides
 abbrev pub refused_with : {A : Type 0} → ℕ → List A → Answer A
 refused_with n vs = record { number = n; values = vs }
+
+-- a thing that is so or not, among the values: 1 or 0
+abbrev pub as_number : Bool → ℕ
+as_number b = pick b 1 0
 
 -- the numbers, each once
 abbrev pub wrong_sizes : ℕ

@@ -8,8 +8,10 @@ use native.Mathlib.Omega.{arith}
 use lib.ListN.{length}
 use Rattle.laws.proofs.Tests.{both}
 use Rattle.listing.specs.Listing.{Listing, listing, first, left, Inside, Lands, count_from}
-use Rattle.listing.specs.declared.Counted.{Counted}
-use Rattle.listing.specs.declared.Counted.TheVariants.{Done, Damage}
+use Rattle.std.specs.Prelude.{Result, Ok, Err}
+use Rattle.laws.specs.declared.Refusal.{Refusal}
+use Rattle.laws.specs.declared.Refusal.TheVariants.{Damage}
+use Rattle.listing.specs.declared.Listed.{Listed}
 use Rattle.listing.proofs.Landings.{rest, left-held, left-broken, left_end, held-inside}
 use Rattle.listing.proofs.Listings.{inside_is_listed, inside_without_room, listing-fits}
 use Rattle.pool.specs.Memory.{Mem}
@@ -20,7 +22,7 @@ use Rattle.walk.specs.declared.Next.{Next}
 use Rattle.walk.specs.declared.Span.{Span}
 
 -- n elements were counted, and x is the next; with what is left the count is `whole`
-pub record Counting (s : Span) (m : Mem) (above u v room : ℕ) (whole : Counted) (n : ℕ) (x : Next) (rs js : List ℕ) : Type 0 where
+pub record Counting (s : Span) (m : Mem) (above u v room : ℕ) (whole : Result Listed Refusal) (n : ℕ) (x : Next) (rs js : List ℕ) : Type 0 where
   pub fits : n ≤ room
   pub stands : Holds s m above x.item x.cursor
   pub within : Inside u v x.item
@@ -41,13 +43,13 @@ module _ (s : Span) (m : Mem) (above u v room : ℕ) where
       let z : room - 0 ≡ room = omega arith in
       record { fits = omega arith; stands = l.stands; within = l.within; counts = rw z }
 
-  module _ (whole : Counted) (n : ℕ) (x : Next) (rs js : List ℕ) (c : Counting s m above u v room whole n x rs js) where
+  module _ (whole : Result Listed Refusal) (n : ℕ) (x : Next) (rs js : List ℕ) (c : Counting s m above u v room whole n x rs js) where
     -- an element between u and v
     module _ (q k : ℕ) (e : x.item ≡ Held q k) where
       at_element : count_from n (listing u v (room - n) (Held q k ∷ rest s m above x rs js)) ≡ whole
       at_element = ap (λ (is : List Item). count_from n (listing u v (room - n) is)) (sym (left-held s m above x rs js q k e)) ∙ c.counts
 
-      pub counting_full : room ≤ n → Done n 1 ≡ whole
+      pub counting_full : room ≤ n → Ok (record { count = n; more = true }) ≡ whole
       unfolding count_from
       counting_full h =
           let z : room - n ≡ 0 = omega arith in
@@ -69,34 +71,35 @@ module _ (s : Span) (m : Mem) (above u v room : ℕ) where
           → length (left s m above y rs' js') < length (left s m above x rs js)
       counting_less y rs' js' l = omega (arith, l.fewer, ap length (left-held s m above x rs js q k e))
 
-    pub counting_broken : x.item ≡ Broken → Damage ≡ whole
+    pub counting_broken : x.item ≡ Broken → Err Damage ≡ whole
     unfolding listing count_from
     counting_broken e = rw (left-broken s m above x rs js e) at c.counts
 
-    pub counting_end : x.item ≡ End → Done n 0 ≡ whole
+    pub counting_end : x.item ≡ End → Ok (record { count = n; more = false }) ≡ whole
     unfolding listing count_from
     counting_end e = rw (left_end s m above x rs js e, add-zero n) at c.counts
 
 -- what was counted, of the listing
 module _ (l : Listing) where
-  pub counted_done : (n more : ℕ) → Done n more ≡ count_from 0 l → (l.sound ≡ true) × (n ≡ length l.keys) × (more ≡ l.more)
+  pub counted_done : (x : Listed) → Ok x ≡ count_from 0 l → (l.sound ≡ true) × (x.count ≡ length l.keys) × (x.more ≡ l.more)
   unfolding count_from
-  counted_done n more e =
+  counted_done x e =
       both l.sound
       (λ t.
-      let s : Done n more ≡ Done (0 + length l.keys) l.more = rw t at e in
-      let a : n ≡ 0 + length l.keys = cc in
-      let b : more ≡ l.more = cc in
+      let s : Ok x ≡ Ok (record { count = 0 + length l.keys; more = l.more }) = rw t at e in
+      let o : x ≡ record { count = 0 + length l.keys; more = l.more } = cc in
+      let a : x.count ≡ 0 + length l.keys = ap (λ (y : Listed). y.count) o in
+      let b : x.more ≡ l.more = ap (λ (y : Listed). y.more) o in
       (t, omega (arith, a), b))
-      (λ t. let s : Done n more ≡ Damage = rw t at e in absurd (let z : ◌≡◌ {A = ℕ} 0 1 = cc in omega arith))
+      (λ t. let s : Ok x ≡ Err Damage = rw t at e in absurd (let z : ◌≡◌ {A = ℕ} 0 1 = cc in omega arith))
 
-  pub counted_damage : Damage ≡ count_from 0 l → l.sound ≡ false
+  pub counted_damage : (r : Refusal) → Err r ≡ count_from 0 l → (l.sound ≡ false) × (r ≡ Damage)
   unfolding count_from
-  counted_damage e =
+  counted_damage r e =
       both l.sound
-      (λ t. let s : Damage ≡ Done (0 + length l.keys) l.more = rw t at e in absurd (let z : ◌≡◌ {A = ℕ} 0 1 = cc in omega arith))
-      (λ t. t)
+      (λ t. let s : Err r ≡ Ok (record { count = 0 + length l.keys; more = l.more }) = rw t at e in absurd (let z : ◌≡◌ {A = ℕ} 0 1 = cc in omega arith))
+      (λ t. let s : Err r ≡ Err Damage = rw t at e in (t, cc))
 
 -- what was counted fits the room
-pub counted_fits : (u v room : ℕ) (is : List Item) (n more : ℕ) → Done n more ≡ count_from 0 (listing u v room is) → n ≤ room
-counted_fits u v room is n more e = omega (arith, (counted_done (listing u v room is) n more e).1, listing-fits u v is room)
+pub counted_fits : (u v room : ℕ) (is : List Item) (x : Listed) → Ok x ≡ count_from 0 (listing u v room is) → x.count ≤ room
+counted_fits u v room is x e = omega (arith, (counted_done (listing u v room is) x e).1, listing-fits u v is room)

@@ -68,7 +68,7 @@ module _ (ru : Rules) (k : ℕ) (e : may_hold ru k ≡ true) where
 
 module _ (m : Mem) (ru : Rules) where
   -- nothing listed
-  ruled_none : (sound : Bool) (more : ℕ) → Ruled m ru (record { sound = sound; keys = []; places = []; more = more })
+  ruled_none : (sound : Bool) (more : Bool) → Ruled m ru (record { sound = sound; keys = []; places = []; more = more })
   ruled_none sound more =
       record {
         rising = record { below = λ i h. absurd (omega arith); rises = λ i j a h. absurd (omega arith) };
@@ -115,7 +115,7 @@ module _ (m : Mem) (u v : ℕ) where
       → ((n : ℕ) → Ruled m (holding ru k) (listing u v n is)) → Ruled m ru (listing u v room (Held q k ∷ is))
   ruled_held zero ru q k is may s h =
       both (leb u k && leb k v)
-      (λ t. rw (inside_without_room u v q k is t) (ruled_none m ru true 1))
+      (λ t. rw (inside_without_room u v q k is t) (ruled_none m ru true true))
       (λ t. rw (outside_adds_nothing u v q k is t 0) (ruled_outside m ru q k may _ (h 0)))
   ruled_held (suc room) ru q k is may s h =
       both (leb u k && leb k v)
@@ -124,15 +124,15 @@ module _ (m : Mem) (u v : ℕ) where
 
   pub events_ruled : (room : ℕ) (ru : Rules) (es : List Event) → AllSound m es → Ruled m ru (listing u v room (items m ru es))
   unfolding listing items
-  events_ruled room ru [] a = ruled_none m ru true 0
+  events_ruled room ru [] a = ruled_none m ru true false
   events_ruled room ru (Enter r n ∷ es) a =
-      both (may_enter m ru n) (λ t. rw t (ruled_entered m ru _ (events_ruled room (entered ru) es a))) (λ t. rw t (ruled_none m ru false 0))
+      both (may_enter m ru n) (λ t. rw t (ruled_entered m ru _ (events_ruled room (entered ru) es a))) (λ t. rw t (ruled_none m ru false false))
   events_ruled room ru (Element q k ∷ es) a =
       both (may_hold ru k)
       (λ t. rw t (ruled_held room ru q k (items m (holding ru k) es) t a.0 (λ n. events_ruled n (holding ru k) es a.1)))
-      (λ t. rw t (ruled_none m ru false 0))
-  events_ruled room ru (Damage c ∷ es) a = ruled_none m ru false 0
-  events_ruled room ru (End ∷ es) a = ruled_none m ru true 0
+      (λ t. rw t (ruled_none m ru false false))
+  events_ruled room ru (Damage c ∷ es) a = ruled_none m ru false false
+  events_ruled room ru (End ∷ es) a = ruled_none m ru true false
 
   -- a listing of a tree
   pub listing_ruled : (room : ℕ) (ru : Rules) (s : Span) (above r : ℕ) → Ruled m ru (listing u v room (items m ru (events_of s m above r)))
@@ -141,14 +141,14 @@ module _ (m : Mem) (u v : ℕ) where
 -- in a rebuild whose room is for as many keys as its rules allow, none is left over
 module _ (m : Mem) (u v : ℕ) where
   all_held : (room : ℕ) (ru : Rules) (q k : ℕ) (is : List Item) → may_hold ru k ≡ true → ru.rebuild ≡ true → ru.keys ≤ room
-      → ((n : ℕ) → ru.keys - 1 ≤ n → (listing u v n is).more ≡ 0) → (listing u v room (Held q k ∷ is)).more ≡ 0
+      → ((n : ℕ) → ru.keys - 1 ≤ n → (listing u v n is).more ≡ false) → (listing u v room (Held q k ∷ is)).more ≡ false
   all_held zero ru q k is may r fits h = absurd (omega (arith, held_one ru k may r))
   all_held (suc room) ru q k is may r fits h =
       both (leb u k && leb k v)
       (λ t. rw (inside_is_listed u v q k is t room) (h room (omega arith)))
       (λ t. rw (outside_adds_nothing u v q k is t (suc room)) (h (suc room) (omega arith)))
 
-  pub none-left_over : (room : ℕ) (ru : Rules) (es : List Event) → ru.rebuild ≡ true → ru.keys ≤ room → (listing u v room (items m ru es)).more ≡ 0
+  pub none-left_over : (room : ℕ) (ru : Rules) (es : List Event) → ru.rebuild ≡ true → ru.keys ≤ room → (listing u v room (items m ru es)).more ≡ false
   unfolding listing items
   none-left_over room ru [] r fits = refl
   none-left_over room ru (Enter n x ∷ es) r fits =

@@ -24,7 +24,7 @@ module _ (u v q k : ℕ) (is : List Item) where
   unfolding listing
   inside_is_listed e room = rw e
 
-  pub inside_without_room : (leb u k && leb k v) ≡ true → listing u v 0 (Held q k ∷ is) ≡ none 1
+  pub inside_without_room : (leb u k && leb k v) ≡ true → listing u v 0 (Held q k ∷ is) ≡ none true
   unfolding listing
   inside_without_room e = rw e
 

@@ -1,10 +1,11 @@
 -- What is listed of the elements that a reading meets (document 01, "The calls": "elements with u <= key <= v in key order .. as many as
 -- fit, and says how many and whether more remain"), for bands and rebuilds; and how the code makes it in two readings: what is left to
 -- read from an item on, the next item between u and v, and what the first reading counts. Definitions only.
-use Rattle.std.specs.Prelude.{Bool, true, false, ◌&&◌, List, [], ◌∷◌, ◌≡◌, ℕ, zero, suc, ◌+◌, ◌≤◌, leb, length}
+use Rattle.std.specs.Prelude.{Bool, true, false, ◌&&◌, List, [], ◌∷◌, ◌≡◌, ℕ, zero, suc, ◌+◌, ◌≤◌, leb, length, Result, Ok, Err}
 use Rattle.laws.specs.Pick.{pick}
-use Rattle.listing.specs.declared.Counted.{Counted}
-use Rattle.listing.specs.declared.Counted.TheVariants.{Done, Damage}
+use Rattle.laws.specs.declared.Refusal.{Refusal}
+use Rattle.laws.specs.declared.Refusal.TheVariants.{Damage}
+use Rattle.listing.specs.declared.Listed.{Listed}
 use Rattle.pool.specs.Memory.{Mem}
 use Rattle.walk.specs.Cursors.{remains}
 use Rattle.walk.specs.Items.{items}
@@ -19,23 +20,23 @@ pub record Listing : Type 0 where
   pub sound : Bool
   pub keys : List ℕ
   pub places : List ℕ
-  pub more : ℕ
+  pub more : Bool
 
-abbrev pub none : ℕ → Listing
+abbrev pub none : Bool → Listing
 none more = record { sound = true; keys = []; places = []; more = more }
 
 abbrev pub spoilt : Listing
-spoilt = record { sound = false; keys = []; places = []; more = 0 }
+spoilt = record { sound = false; keys = []; places = []; more = false }
 
 abbrev pub first : ℕ → ℕ → Listing → Listing
 first q k l = record { sound = l.sound; keys = k ∷ l.keys; places = q ∷ l.places; more = l.more }
 
 -- with so much room left
 unfoldable pub listing : ℕ → ℕ → ℕ → List Item → Listing
-listing u v room [] = none 0
-listing u v room (End ∷ is) = none 0
+listing u v room [] = none false
+listing u v room (End ∷ is) = none false
 listing u v room (Broken ∷ is) = spoilt
-listing u v zero (Held q k ∷ is) = pick (leb u k && leb k v) (none 1) (listing u v zero is)
+listing u v zero (Held q k ∷ is) = pick (leb u k && leb k v) (none true) (listing u v zero is)
 listing u v (suc room) (Held q k ∷ is) = pick (leb u k && leb k v) (first q k (listing u v room is)) (listing u v (suc room) is)
 
 -- an item and all that is left to read after it, `above` nodes lying above the reading
@@ -56,5 +57,5 @@ pub record Lands (s : Span) (m : Mem) (above u v : ℕ) (is : List Item) (to : N
   pub within : Inside u v to.item
 
 -- what the first reading finds: damage, or how many are listed after the n before, and whether more remain
-unfoldable pub count_from : ℕ → Listing → Counted
-count_from n l = pick l.sound (Done (n + length l.keys) l.more) Damage
+unfoldable pub count_from : ℕ → Listing → Result Listed Refusal
+count_from n l = pick l.sound (Ok (record { count = n + length l.keys; more = l.more })) (Err Damage)

@@ -2,7 +2,7 @@
 // and how many fit, and writes nothing; the second writes just so many.
 #![tactic(auto)]
 
-ghost use Rattle.std.specs.Prelude.{◌&&◌, map, ◌≡◌, ℕ, ◌+◌, ◌^◌, ◌<◌, ◌≤◌, leb, length, get_or};
+ghost use Rattle.std.specs.Prelude.{true, false, ◌&&◌, map, ◌≡◌, ℕ, ◌+◌, ◌^◌, ◌<◌, ◌≤◌, leb, length, get_or};
 ghost use Rattle.std.proofs.lemmas.List.Edits.{sets};
 ghost use Rattle.listing.specs.Listing.{listing, left, Lands, count_from};
 ghost use Rattle.pool.specs.Memory.{mem, payload_word};
@@ -12,14 +12,31 @@ ghost use Rattle.walk.specs.Items.{items};
 ghost use Rattle.walk.specs.Moves.{SpanFits, Holds, Standing, below};
 ghost use Rattle.walk.specs.Walks.{longest_path};
 
+use laws::Refusal;
 use pool::Node;
 use walk::{Item, Next, Path, Rules, Span};
 
-// What the first reading finds: how many fit and whether more remain (0 or 1), or damage.
-#[derive(Clone, Copy)]
-pub enum Counted {
-    Done(usize, usize),
-    Damage,
+// How many elements are listed, and whether more remain.
+#[derive(Clone, Copy, Debug, PartialEq, Eq)]
+pub struct Listed {
+    pub count: usize,
+    pub more: bool,
+}
+
+impl Listed {
+    // All there are.
+    fn all(count: usize) -> Self
+        ensures { result ≡ record { count = count; more = false } }
+    {
+        Self { count, more: false }
+    }
+
+    // The first of more.
+    fn first(count: usize) -> Self
+        ensures { result ≡ record { count = count; more = true } }
+    {
+        Self { count, more: true }
+    }
 }
 
 fn inside(u: u64, v: u64, k: u64) -> bool
@@ -145,7 +162,7 @@ pub fn count(
     u: u64,
     v: u64,
     room: usize,
-) -> Counted
+) -> Result<Listed, Refusal>
     requires span_fits { SpanFits span }
     requires above_lt_longest_path { above < longest_path }
     ensures { result ≡ count_from 0 (listing u v room (items (mem nodes.now slots.now used.now) rules
@@ -172,7 +189,7 @@ pub fn count(
         match item {
             Item::Held(_slot, _key) => {
                 if room <= n {
-                    return Counted::Done(n, 1);
+                    return Ok(Listed::first(n));
                 }
                 n += 1;
                 next = next_listed(
@@ -189,10 +206,10 @@ pub fn count(
                 );
             }
             Item::Broken => {
-                return Counted::Damage;
+                return Err(Refusal::Damage);
             }
             Item::End => {
-                return Counted::Done(n, 0);
+                return Ok(Listed::all(n));
             }
         }
     }

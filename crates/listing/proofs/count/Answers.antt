@@ -9,7 +9,7 @@ use Rattle.listing.proofs.count.Goals as goal
 
 pub returns-then-room-n : goal.returns-then-room-n
 returns-then-room-n c =
-    counting_full _ _ _ _ _ _ _ _ _ _ _ c.loop-slot.invariant.0 _ _ c.in-Held.is c.if-room-n.true ∙ ap (count_from 0) (c.first_listed-next.ensures.lists _)
+    rw c.first.ensures (counting_full _ _ _ _ _ _ _ _ _ _ _ c.loop-slot.invariant.0 _ _ c.in-Held.is c.if-room-n.true ∙ ap (count_from 0) (c.first_listed-next.ensures.lists _))
 
 pub loop-slot-smaller : goal.loop-slot-smaller
 loop-slot-smaller c = counting_less _ _ _ _ _ _ _ _ c.loop-slot.next _ _ c.loop-slot.invariant.0 _ _ c.in-Held.is _ _ _ c.next_listed-next.ensures
@@ -26,4 +26,4 @@ returns-in-Broken c =
 pub returns-in-End : goal.returns-in-End
 returns-in-End c =
     let e : c.loop-slot.next.item ≡ End = cc in
-    counting_end _ _ _ _ _ _ _ _ _ _ _ c.loop-slot.invariant.0 e ∙ ap (count_from 0) (c.first_listed-next.ensures.lists _)
+    rw c.all.ensures (counting_end _ _ _ _ _ _ _ _ _ _ _ c.loop-slot.invariant.0 e ∙ ap (count_from 0) (c.first_listed-next.ensures.lists _))
