@@ -125,7 +125,7 @@ module _ (depth : ℕ) (m : Mem) (r : ℕ) where
   release-sized = frees_sized m (release depth m r) (release_frees depth m r)
 
   -- a record that is not good is passed over
-  pub release-broken : (c : ℕ) → node_at m r ≡ Err c → release (suc depth) m r ≡ m
+  pub release-broken : (c : Rule) → node_at m r ≡ Err c → release (suc depth) m r ≡ m
   unfolding release release_record
   release-broken c e = rw e
 
@@ -219,7 +219,7 @@ module _ (fuel : ℕ) (m : Mem) (r : ℕ) where
     fueled : fuel ≡ suc (fuel - 1)
     fueled = omega arith
 
-    pub ends-broken : (c : ℕ) → x ≡ Err c → m ≡ release fuel m r
+    pub ends-broken : (c : Rule) → x ≡ Err c → m ≡ release fuel m r
     ends-broken c e = rw fueled (sym (release-broken (fuel - 1) m r c (sym reads ∙ e)))
 
     pub ends_dropped : (n : Node) (j : ℕ) (m' after : Mem) → x ≡ Ok n → Left (fuel - 1) n j m m' → n.model.l ≤ j → after ≡ drop_node m' r n → after ≡ release fuel m r

@@ -18,13 +18,6 @@ use marks::Run;
 use model::Model;
 use pool::Node;
 
-// What a build gives: its top node's record, or that there was no room.
-#[derive(Clone, Copy)]
-pub enum Built {
-    At(usize),
-    NoRoom,
-}
-
 // Where a search for places may start: every record before `record` and every slot before `slot` is used.
 #[derive(Clone, Copy)]
 pub struct Hint {
@@ -32,10 +25,10 @@ pub struct Hint {
     pub slot: usize,
 }
 
-// A build's end, with where the next search may start.
+// A build's end: its top node's record, if there was room, and where the next search may start.
 #[derive(Clone, Copy)]
 pub struct Grown {
-    pub built: Built,
+    pub built: Option<usize>,
     pub hint: Hint,
 }
 
@@ -168,7 +161,7 @@ fn build_group(
 {
     let g = build_node(keys, payloads, nodes, slots, used, hint, fuel);
     let built = g.built;
-    if let Built::At(child) = built {
+    if let Some(child) = built {
         pool::put_child(slots, q, child);
     }
     g
@@ -194,16 +187,10 @@ pub fn build_node(
     ensures { Builds fuel keys.now payloads.now (mem nodes.old slots.old used.old) (mem nodes.new slots.new used.new) result }
 {
     if fuel < 1 {
-        return Grown {
-            built: Built::NoRoom,
-            hint,
-        };
+        return Grown { built: None, hint };
     }
     let Placed::Here(place) = begin_node(keys, nodes, slots, used, hint) else {
-        return Grown {
-            built: Built::NoRoom,
-            hint,
-        };
+        return Grown { built: None, hint };
     };
     let record = place.record;
     let node = place.node;
@@ -228,7 +215,7 @@ pub fn build_node(
                 fuel - 1,
             );
             let built = g.built;
-            let Built::At(_) = built else {
+            let Some(_) = built else {
                 return g;
             };
             next = g.hint;
@@ -236,7 +223,7 @@ pub fn build_node(
         a = b;
     }
     Grown {
-        built: Built::At(record),
+        built: Some(record),
         hint: next,
     }
 }

@@ -5,7 +5,7 @@ ghost use Rattle.pool.specs.Memory.{mem, records_in, slots_in};
 ghost use Rattle.build.specs.Hints.{Sized};
 ghost use Rattle.build.specs.Releasing.{drop_node, release};
 
-use pool::{Node, Record, Slot};
+use pool::{Node, Slot};
 
 // The node n of record r goes: zeros for its run and its record, and their marks taken away.
 fn drop_node(nodes: &mut [u64], slots: &mut [u64], used: &mut [u64], r: usize, n: Node)
@@ -31,18 +31,19 @@ pub fn release(nodes: &mut [u64], slots: &mut [u64], used: &mut [u64], r: usize,
     if fuel < 1 {
         return;
     }
-    let Record::Good(n) = pool::node_at(nodes, slots, used, r) else {
+    let Ok(n) = pool::node_at(nodes, slots, used, r) else {
         return;
     };
     let m = n.model;
     let l = m.l as usize;
-    let mut j = 0;
-    while j < l {
-        let s = pool::slot_at(slots, n, j);
-        j += 1;
-        if let Slot::Child(c) = s {
-            release(nodes, slots, used, c, fuel - 1);
-        }
+    for j in 0..l {
+        let Ok(slot) = pool::slot_at(slots, n, j) else {
+            continue;
+        };
+        let Slot::Child(child) = slot else {
+            continue;
+        };
+        release(nodes, slots, used, child, fuel - 1);
     }
     drop_node(nodes, slots, used, r, n);
 }

@@ -46,11 +46,11 @@ build_group-build_node-g-requires t c =
 pub build_group-put_child-requires-clause-child_lt_kind_unit :
     goal.build_group-put_child-requires-clause-child_lt_kind_unit
 build_group-put_child-requires-clause-child_lt_kind_unit t c =
-    child_small c.args.fuel c.args.q _ _ _ _ _ c.build_node-g.ensures _ c.in-At.is c.requires.sized
+    child_small c.args.fuel c.args.q _ _ _ _ _ c.build_node-g.ensures _ c.in-Some.is c.requires.sized
 
-pub build_group-returns-in-At : goal.build_group-returns-in-At
-build_group-returns-in-At t c =
-    group_child c.args.fuel c.args.q _ _ _ _ _ c.build_node-g.ensures _ _ c.in-At.is c.put_child.ensures
+pub build_group-returns-in-Some : goal.build_group-returns-in-Some
+build_group-returns-in-Some t c =
+    group_child c.args.fuel c.args.q _ _ _ _ _ c.build_node-g.ensures _ _ c.in-Some.is c.put_child.ensures
 
 pub build_group-returns-in_default : goal.build_group-returns-in_default
 build_group-returns-in_default t c =
@@ -112,7 +112,7 @@ build_node-loop-a-preserved t c =
     let p = c.requires in
     let w = turn c.loop-a.invariant p.rising p.payloads_len p.keys_len_bound c.loop-a-test.true c.slot_of.ensures c.run_end-b.ensures in
     let g = c.build_group-g in
-    turn_group w c.if-b-a-eq1.false (mem g.new.nodes g.new.slots g.new.used) g.result g.ensures _ c.in-At.is g.auto.nodes g.auto.slots g.auto.used
+    turn_group w c.if-b-a-eq1.false (mem g.new.nodes g.new.slots g.new.used) g.result g.ensures _ c.in-Some.is g.auto.nodes g.auto.slots g.auto.used
 
 pub build_node-returns : goal.build_node-returns
 build_node-returns t c =

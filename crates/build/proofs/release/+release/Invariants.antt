@@ -11,6 +11,3 @@ decreases-release l = l.fuel
 abbrev pub invariant-loop-j : goal.invariant-loop-j
 invariant-loop-j l =
     Left (l.fuel - 1) l.n l.j (mem l.initial.nodes l.initial.slots l.initial.used) (mem l.nodes l.slots l.used)
-
-abbrev pub decreases-loop-j : goal.decreases-loop-j
-decreases-loop-j l = l.l - l.j
