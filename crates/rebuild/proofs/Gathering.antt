@@ -15,8 +15,9 @@ use Rattle.listing.proofs.Counts.{counted_done, counted_damage}
 use Rattle.listing.proofs.Halves.{listed_between, halves_few}
 use Rattle.listing.proofs.Keys.{Ruled, listing_ruled}
 use Rattle.listing.specs.Listing.{listing, count_from}
-use Rattle.listing.specs.declared.Counted.{Counted}
-use Rattle.listing.specs.declared.Counted.TheVariants.{Done, Damage}
+use Rattle.std.specs.Prelude.{Result, Ok, Err, is_ok}
+use Rattle.laws.specs.declared.Refusal.{Refusal}
+use Rattle.listing.specs.declared.Listed.{Listed}
 use Rattle.pool.specs.Memory.{Mem, records_in, payload_word}
 use Rattle.rebuild.specs.Judging.{Gatherable, Gathers}
 use Rattle.rebuild.specs.Rebuilding.{rebuild_rules, live_items, last_key, sound_below, lower_live, upper_live, payloads_in, keys_with, payloads_with}
@@ -96,14 +97,14 @@ module _ (xs : List ℕ) (k : ℕ) (ys : List ℕ) (a : Rising xs) (b : Rising y
 
 module _ (capacity k above top : ℕ) (m : Mem) where
   -- the survey says whether a rule is broken
-  module _ (ru : Rules) (are : ru ≡ rebuild_rules (records_in m.nodes) capacity k) (c : Counted) (e : c ≡ count_from 0 (listing 0 last_key capacity (items m ru (events_of Whole m above top)))) where
-    pub surveyed_sound : (n more : ℕ) → c ≡ Done n more → true ≡ sound_below capacity k above top m
+  module _ (ru : Rules) (are : ru ≡ rebuild_rules (records_in m.nodes) capacity k) (c : Result Listed Refusal) (e : c ≡ count_from 0 (listing 0 last_key capacity (items m ru (events_of Whole m above top)))) where
+    surveyed_as : (x : Result Listed Refusal) → c ≡ x → is_ok x ≡ sound_below capacity k above top m
     unfolding sound_below live_items
-    surveyed_sound n more f = sym (counted_done (listing 0 last_key capacity (live_items capacity k above top m)) n more (sym f ∙ rw are at e)).0
+    surveyed_as (Ok x) f = sym (counted_done (listing 0 last_key capacity (live_items capacity k above top m)) x (sym f ∙ rw are at e)).0
+    surveyed_as (Err r) f = sym (counted_damage (listing 0 last_key capacity (live_items capacity k above top m)) r (sym f ∙ rw are at e)).0
 
-    pub surveyed_broken : c ≡ Damage → false ≡ sound_below capacity k above top m
-    unfolding sound_below live_items
-    surveyed_broken f = sym (counted_damage (listing 0 last_key capacity (live_items capacity k above top m)) (sym f ∙ rw are at e))
+    pub surveyed : is_ok c ≡ sound_below capacity k above top m
+    surveyed = surveyed_as c refl
 
   lower_ruled : Ruled m (rebuild_rules (records_in m.nodes) capacity k) (lower_live capacity k above top m)
   unfolding lower_live live_items

@@ -75,7 +75,7 @@ unfolding events_at in_record
 good_events m d r n e = rw (e, whole-slots n.model (good-node m r n e).range, whole-first n.model)
 
 -- the record of an undamaged reading is a node's
-undamaged_good : (m : Mem) (d r : ℕ) (x : Result Node Rule) → node_at m r ≡ x → Undamaged (events_at Whole m (suc d) r) → (c : ℕ) → x ≡ Err c → ⊥
+undamaged_good : (m : Mem) (d r : ℕ) (x : Result Node Rule) → node_at m r ≡ x → Undamaged (events_at Whole m (suc d) r) → (c : Rule) → x ≡ Err c → ⊥
 unfolding events_at in_record
 undamaged_good m d r x e u c f = subst (λ (y : Result Node Rule). Undamaged (in_record Whole (events_at Whole m d) m r y)) (e ∙ f) u
 

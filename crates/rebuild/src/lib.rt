@@ -12,9 +12,8 @@ ghost use Rattle.rebuild.specs.Rebuilding.{rebuild_rules, sound_below, rebuild_o
 ghost use Rattle.build.specs.Building.{out};
 ghost use Rattle.walk.specs.Walks.{longest_path};
 
-use build::{Built, Hint};
+use build::Hint;
 use laws::Key;
-use listing::Counted;
 use pool::Node;
 use walk::{Path, Rules, Span};
 
@@ -46,7 +45,7 @@ pub fn is_sound(
     ensures { result ≡ sound_below capacity key above top (mem nodes.now slots.now used.now) }
 {
     let rules = rules_of(nodes, capacity, key);
-    match listing::count(
+    let counted = listing::count(
         nodes,
         slots,
         used,
@@ -57,10 +56,8 @@ pub fn is_sound(
         0,
         Key::BOUND - 1,
         capacity,
-    ) {
-        Counted::Done(_count, _more) => true,
-        Counted::Damage => false,
-    }
+    );
+    counted.is_ok()
 }
 
 // The live keys of the subtree at record `top` with the new one in its place, and their payloads: how many.
@@ -126,7 +123,7 @@ fn build_in_place(
     slots: &mut [u64],
     used: &mut [u64],
     places: &mut [u64],
-) -> Built
+) -> Option<usize>
     requires judgeable { Judgeable keys.now payloads.now (mem nodes.old slots.old used.old) places.old }
     requires above_le_longest_path { above ≤ longest_path }
     requires sound { Sound above top (mem nodes.old slots.old used.old) }
@@ -137,10 +134,10 @@ fn build_in_place(
     let count = slots.len() / Node::SLOT_WORDS;
     let needs = build::sizes::sizes(keys, places, 0, Path::LONGEST);
     if !build::room::has_room(used, records, count, places, needs.nodes) {
-        return Built::NoRoom;
+        return None;
     }
     if Path::LONGEST < above + needs.depth {
-        return Built::NoRoom;
+        return None;
     }
     let start = Hint { record: 0, slot: 0 };
     let g = build::build_node(keys, payloads, nodes, slots, used, start, Path::LONGEST);
@@ -162,7 +159,7 @@ pub fn rebuild(
     keys: &mut [u64],
     payloads: &mut [u64],
     places: &mut [u64],
-) -> Built
+) -> Option<usize>
     requires { Rebuildable capacity key above top (mem nodes.old slots.old used.old) (scratch keys.old payloads.old places.old) }
     ensures { rebuilt (out result (mem nodes.new slots.new used.new)) (scratch keys.new payloads.new places.new)
         ≡ rebuild_of capacity key payload above top (mem nodes.old slots.old used.old)

@@ -7,7 +7,7 @@ ghost use Rattle.rebuild.specs.Judging.{Pooled};
 ghost use Rattle.rebuild.specs.Pairs.{PairFits, pair_if, pair_gone};
 ghost use Rattle.walk.specs.Walks.{longest_path};
 
-use build::{Built, Hint};
+use build::Hint;
 use walk::Path;
 
 // A node over two keys, the lower first.
@@ -19,7 +19,7 @@ fn build_two(
     nodes: &mut [u64],
     slots: &mut [u64],
     used: &mut [u64],
-) -> Built
+) -> Option<usize>
     requires pooled { Pooled (mem nodes.old slots.old used.old) }
     requires a_lt_b { (a < b) × (b < key_bound) }
     ensures { out result (mem nodes.new slots.new used.new)
@@ -42,14 +42,14 @@ pub fn build_pair(
     nodes: &mut [u64],
     slots: &mut [u64],
     used: &mut [u64],
-) -> Built
+) -> Option<usize>
     requires pooled { Pooled (mem nodes.old slots.old used.old) }
     requires pair_fits { PairFits conflict a b }
     ensures { out result (mem nodes.new slots.new used.new)
         ≡ pair_if conflict a p b q (mem nodes.old slots.old used.old) }
 {
     if !conflict {
-        return Built::At(0);
+        return Some(0);
     }
     if a < b {
         return build_two(a, p, b, q, nodes, slots, used);
