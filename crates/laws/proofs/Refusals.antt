@@ -7,7 +7,6 @@ use Rattle.laws.specs.declared.Refusal.{Refusal}
 use Rattle.laws.specs.declared.Refusal.TheVariants.{WrongSizes, OutOfRange, Reversed, NotRising, Held, NotHeld, Full, NoRoom, Damage}
 
 pub number-refusal : (e : Refusal) → (refusal e).number ≡ number_of e
-unfolding refusal
 number-refusal WrongSizes = refl
 number-refusal OutOfRange = refl
 number-refusal Reversed = refl
@@ -31,7 +30,6 @@ refusal_in a =
     (pick (eqb a.number 8) NoRoom Damage)))))))
 
 refusal-back : (e : Refusal) → refusal_in (refusal e) ≡ e
-unfolding refusal
 refusal-back WrongSizes = refl
 refusal-back OutOfRange = refl
 refusal-back Reversed = refl

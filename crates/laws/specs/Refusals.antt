@@ -16,7 +16,7 @@ number_of NoRoom = no_room
 number_of Damage = damage
 
 -- a refusal's answer: its number, and the place or the visits that it tells
-unfoldable pub refusal : Refusal → Answer ℕ
+abbrev pub refusal : Refusal → Answer ℕ
 refusal WrongSizes = refused wrong_sizes
 refusal OutOfRange = refused out_of_range
 refusal Reversed = refused reversed

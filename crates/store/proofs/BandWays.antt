@@ -11,35 +11,38 @@ use Rattle.listing.proofs.Counts.{counted_done, counted_damage}
 use Rattle.listing.proofs.Listings.{relisted}
 use Rattle.listing.proofs.Writes.{payloads_at}
 use Rattle.listing.specs.Listing.{listing, count_from}
-use Rattle.listing.specs.declared.Counted.TheVariants.{Done as Counts, Damage as Spoilt}
+use Rattle.std.specs.Prelude.{Ok, Err}
+use Rattle.laws.specs.Refusals.{refusal}
+use Rattle.laws.specs.declared.Refusal.{Refusal}
+use Rattle.laws.specs.declared.Refusal.TheVariants.{WrongSizes, OutOfRange, Reversed}
+use Rattle.listing.specs.declared.Listed.{Listed}
 use Rattle.pool.specs.Memory.{Mem}
 use Rattle.store.specs.Bands.{band, band_items, band_out, band_of, listed}
 use Rattle.store.specs.Handles.{handle_fits}
 use Rattle.store.specs.declared.Handle.{Handle}
-use Rattle.store.specs.declared.Listed.TheVariants.{Done, WrongSizes, OutOfRange, Reversed, Damage}
 
 module _ (h : Handle) (u v : ℕ) (m : Mem) (ks ps : List ℕ) where
-  pub band-sizes : handle_fits h m ≡ false → band (listed WrongSizes) ks ps ≡ band_of h u v m ks ps
+  pub band-sizes : handle_fits h m ≡ false → band (listed (Err WrongSizes)) ks ps ≡ band_of h u v m ks ps
   unfolding band_of listed
   band-sizes e = rw e
 
   module _ (fits : handle_fits h m ≡ true) where
-    pub band_unequal : (length ks ≡ length ps → ⊥) → band (listed WrongSizes) ks ps ≡ band_of h u v m ks ps
+    pub band_unequal : (length ks ≡ length ps → ⊥) → band (listed (Err WrongSizes)) ks ps ≡ band_of h u v m ks ps
     unfolding band_of listed
     band_unequal e = rw (fits, ne_eqb (length ks) (length ps) e)
 
     module _ (same : length ks ≡ length ps) where
-      pub band-first-out : key_bound ≤ u → band (listed OutOfRange) ks ps ≡ band_of h u v m ks ps
+      pub band-first-out : key_bound ≤ u → band (listed (Err OutOfRange)) ks ps ≡ band_of h u v m ks ps
       unfolding band_of listed
       band-first-out e = rw (fits, eq-eqb (length ks) (length ps) same, le-ltb u key_bound e)
 
       module _ (low : u < key_bound) where
-        pub band_last_out : key_bound ≤ v → band (listed OutOfRange) ks ps ≡ band_of h u v m ks ps
+        pub band_last_out : key_bound ≤ v → band (listed (Err OutOfRange)) ks ps ≡ band_of h u v m ks ps
         unfolding band_of listed
         band_last_out e = rw (fits, eq-eqb (length ks) (length ps) same, lt-ltb u key_bound low, le-ltb v key_bound e)
 
         module _ (high : v < key_bound) where
-          pub band-reversed : v < u → band (listed Reversed) ks ps ≡ band_of h u v m ks ps
+          pub band-reversed : v < u → band (listed (Err Reversed)) ks ps ≡ band_of h u v m ks ps
           unfolding band_of listed
           band-reversed e = rw (fits, eq-eqb (length ks) (length ps) same, lt-ltb u key_bound low, lt-ltb v key_bound high, lt-leb u v e)
 
@@ -48,16 +51,18 @@ module _ (h : Handle) (u v : ℕ) (m : Mem) (ks ps : List ℕ) where
             unfolding band_of
             at_listing = rw (fits, eq-eqb (length ks) (length ps) same, lt-ltb u key_bound low, lt-ltb v key_bound high, le-leb u v order)
 
-            pub band-damage : Spoilt ≡ count_from 0 (listing u v (length ks) (band_items h u v m)) → band (listed Damage) ks ps ≡ band_of h u v m ks ps
+            pub band-damage : (r : Refusal) → Err r ≡ count_from 0 (listing u v (length ks) (band_items h u v m)) → band (listed (Err r)) ks ps ≡ band_of h u v m ks ps
             unfolding band_out listed
-            band-damage e = rw (counted_damage (listing u v (length ks) (band_items h u v m)) e) at at_listing
+            band-damage r e =
+                let d = counted_damage (listing u v (length ks) (band_items h u v m)) r e in
+                rw d.1 (rw d.0 at at_listing)
 
-            pub band-done : (n more : ℕ) → Counts n more ≡ count_from 0 (listing u v (length ks) (band_items h u v m))
-                → (ks' ps' : List ℕ) → ks' ≡ sets ks 0 (listing u v n (band_items h u v m)).keys
-                → ps' ≡ sets ps 0 (payloads_at m.slots (listing u v n (band_items h u v m)).places)
-                → band (listed (Done n more)) ks' ps' ≡ band_of h u v m ks ps
+            pub band-done : (x : Listed) → Ok x ≡ count_from 0 (listing u v (length ks) (band_items h u v m))
+                → (ks' ps' : List ℕ) → ks' ≡ sets ks 0 (listing u v x.count (band_items h u v m)).keys
+                → ps' ≡ sets ps 0 (payloads_at m.slots (listing u v x.count (band_items h u v m)).places)
+                → band (listed (Ok x)) ks' ps' ≡ band_of h u v m ks ps
             unfolding band_out listed
-            band-done n more e ks' ps' p q =
-                let c = counted_done (listing u v (length ks) (band_items h u v m)) n more e in
+            band-done x e ks' ps' p q =
+                let c = counted_done (listing u v (length ks) (band_items h u v m)) x e in
                 let r = relisted u v (band_items h u v m) (length ks) in
                 rw (p, q, c.2, c.1, r.0, r.1) (rw c.0 at at_listing)

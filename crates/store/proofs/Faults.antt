@@ -12,11 +12,12 @@ use Rattle.laws.proofs.Tests.{both}
 use Rattle.laws.specs.Keys.{key_bound, Rising}
 use Rattle.store.specs.Loading.{fault_from, first_fault}
 use Rattle.store.specs.declared.Fault.{Fault}
-use Rattle.store.specs.declared.Fault.TheVariants.{Nothing, OutOfRange, NotRising}
+use Rattle.store.specs.declared.Fault.TheVariants.{OutOfRange, NotRising}
+use Rattle.std.specs.Prelude.{Option, Some, None}
 
 -- at place i what is left to search is the whole search
-module _ (ks : List ℕ) (i least : ℕ) (whole : Fault) (inv : fault_from i least (drop i ks) ≡ whole) where
-  pub fault_none : length ks ≤ i → Nothing ≡ whole
+module _ (ks : List ℕ) (i least : ℕ) (whole : Option Fault) (inv : fault_from i least (drop i ks) ≡ whole) where
+  pub fault_none : length ks ≤ i → None ≡ whole
   unfolding fault_from
   fault_none h = rw (drop_of_length-le ks h) at inv
 
@@ -24,11 +25,11 @@ module _ (ks : List ℕ) (i least : ℕ) (whole : Fault) (inv : fault_from i lea
     here : fault_from i least (get_or ks i 0 ∷ drop (suc i) ks) ≡ whole
     here = rw (drop-cons ks i 0 h) at inv
 
-    pub fault_range : key_bound ≤ get_or ks i 0 → OutOfRange ≡ whole
+    pub fault_range : key_bound ≤ get_or ks i 0 → Some OutOfRange ≡ whole
     unfolding fault_from
     fault_range le = rw (le-ltb (get_or ks i 0) key_bound le) at here
 
-    pub fault_fall : get_or ks i 0 < key_bound → get_or ks i 0 < least → NotRising i ≡ whole
+    pub fault_fall : get_or ks i 0 < key_bound → get_or ks i 0 < least → Some (NotRising i) ≡ whole
     unfolding fault_from
     fault_fall lt low = rw (lt-ltb (get_or ks i 0) key_bound lt, lt-leb least (get_or ks i 0) low) at here
 
@@ -40,8 +41,8 @@ module _ (ks : List ℕ) (i least : ℕ) (whole : Fault) (inv : fault_from i lea
 abbrev Fine : ℕ → List ℕ → Type 0
 Fine least ks = ((i : ℕ) → i < length ks → (get_or ks i 0 < key_bound) × (least ≤ get_or ks i 0)) × ((i j : ℕ) → i < j → j < length ks → get_or ks i 0 < get_or ks j 0)
 
-nothing-apart : {A : Type 0} → (f : Fault) → f ≡ Nothing → (f ≡ OutOfRange → A) × ((p : ℕ) → f ≡ NotRising p → A)
-nothing-apart f e = (λ q. absurd (let z : ◌≡◌ {A = ℕ} 0 1 = cc in omega arith), λ p q. absurd (let z : ◌≡◌ {A = ℕ} 0 1 = cc in omega arith))
+fault-some : {A : Type 0} → (f : Fault) → Some f ≡ None → A
+fault-some f e = absurd (let z : ◌≡◌ {A = ℕ} 0 1 = cc in omega arith)
 
 fine_cons : (least k : ℕ) (ks : List ℕ) → k < key_bound → least ≤ k → Fine (k + 1) ks → Fine least (k ∷ ks)
 fine_cons least k ks lt le f = (each, rise)
@@ -56,7 +57,7 @@ fine_cons least k ks lt le f = (each, rise)
     rise (suc i) zero a b = absurd (omega arith)
     rise (suc i) (suc j) a b = f.1 i j (omega arith) (omega arith)
 
-fault_fine : (i least : ℕ) (ks : List ℕ) → fault_from i least ks ≡ Nothing → Fine least ks
+fault_fine : (i least : ℕ) (ks : List ℕ) → fault_from i least ks ≡ None → Fine least ks
 unfolding fault_from
 fault_fine i least [] e = (λ j h. absurd (omega arith), λ a b h g. absurd (omega arith))
 fault_fine i least (k ∷ ks) e =
@@ -64,10 +65,10 @@ fault_fine i least (k ∷ ks) e =
     (λ p.
     both (leb least k)
     (λ q. fine_cons least k ks (ltb-true k key_bound p) (leb-true least k q) (fault_fine (i + 1) (k + 1) ks (rw (p, q) at e)))
-    (λ q. (nothing-apart (NotRising i) (rw (p, q) at e)).1 i refl))
-    (λ p. (nothing-apart OutOfRange (rw p at e)).0 refl)
+    (λ q. fault-some (NotRising i) (rw (p, q) at e)))
+    (λ p. fault-some OutOfRange (rw p at e))
 
-pub faultless_rises : (ks : List ℕ) → first_fault ks ≡ Nothing → Rising ks
+pub faultless_rises : (ks : List ℕ) → first_fault ks ≡ None → Rising ks
 unfolding first_fault
 faultless_rises ks e =
     let f = fault_fine 0 0 ks e in

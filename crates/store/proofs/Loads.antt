@@ -1,6 +1,6 @@
 -- Laws of load: its tests, a law for each refusal, and that the sums of the build's sizes decide whether there is room, since
 -- the pools count as empty. Assumes nothing.
-use Rattle.std.specs.Prelude.{None, Option, Some}
+use Rattle.std.specs.Prelude.{None, Option, Some, Ok, Err}
 use mathlib.Core.Bool.{true, false}
 use mathlib.Core.List.{List}
 use mathlib.Core.Path.{◌≡◌, refl, sym, ap, ◌∙◌}
@@ -20,10 +20,12 @@ use Rattle.store.proofs.Faults.{faultless_rises}
 use Rattle.store.proofs.Fitting.{limits_given, pools_given}
 use Rattle.store.specs.Calls.{Call}
 use Rattle.store.specs.Handles.{new_handle, limits_hold, pools_are}
-use Rattle.store.specs.Loading.{first_fault, emptied, load_fits, load_built, load_tree, load_list, load_of, loaded, Loadable, Roomy}
-use Rattle.store.specs.declared.Fault.TheVariants.{Nothing, OutOfRange as KeyOutOfRange, NotRising as KeyNotRising}
+use Rattle.store.specs.Loading.{first_fault, refusal_for, emptied, load_fits, load_built, load_tree, load_list, load_of, loaded, Loadable, Roomy}
+use Rattle.store.specs.declared.Fault.{Fault}
+use Rattle.store.specs.declared.Fault.TheVariants.{OutOfRange as KeyOutOfRange, NotRising as KeyNotRising}
+use Rattle.laws.specs.Refusals.{refusal}
+use Rattle.laws.specs.declared.Refusal.TheVariants.{WrongSizes, Full, NoRoom}
 use Rattle.store.specs.declared.Handle.{Handle}
-use Rattle.store.specs.declared.Loaded.TheVariants.{Done, WrongSizes, Full, OutOfRange, NotRising, NoRoom}
 use Rattle.walk.specs.Walks.{longest_path}
 
 -- the tests of a load's sizes, as the code goes
@@ -42,7 +44,7 @@ module _ (c : ℕ) (ks ps : List ℕ) (m : Mem) where
     load_lists f = rw (e, f)
 
   -- what is known of a list and pools that pass, rise and fit
-  pub loadable : load_fits c ks ps m ≡ true → length ks ≤ c → first_fault ks ≡ Nothing → Loadable ks ps m
+  pub loadable : load_fits c ks ps m ≡ true → length ks ≤ c → first_fault ks ≡ None → Loadable ks ps m
   unfolding load_fits
   loadable e le f =
       let a = and_both (limits_hold c (records_in m.nodes) (slots_in m.slots)) _ e in
@@ -59,25 +61,22 @@ module _ (c : ℕ) (ks ps : List ℕ) (m : Mem) where
       }
 
   -- the refusals
-  pub load-sizes : load_fits c ks ps m ≡ false → loaded WrongSizes m ≡ load_of c ks ps m
+  pub load-sizes : load_fits c ks ps m ≡ false → loaded (Err WrongSizes) m ≡ load_of c ks ps m
   unfolding loaded load_of
   load-sizes e = rw e
 
   module _ (e : load_fits c ks ps m ≡ true) where
-    pub load_full : c < length ks → loaded Full m ≡ load_of c ks ps m
+    pub load_full : c < length ks → loaded (Err Full) m ≡ load_of c ks ps m
     unfolding loaded load_of
     load_full lt = rw (e, lt-leb (length ks) c lt)
 
     module _ (le : length ks ≤ c) where
-      pub load-range : first_fault ks ≡ KeyOutOfRange → loaded OutOfRange m ≡ load_of c ks ps m
+      pub load-fault : (f : Fault) → first_fault ks ≡ Some f → loaded (Err (refusal_for f)) m ≡ load_of c ks ps m
       unfolding loaded load_of load_list
-      load-range f = rw (e, le-leb (length ks) c le, f)
+      load-fault KeyOutOfRange f = rw (e, le-leb (length ks) c le, f)
+      load-fault (KeyNotRising p) f = rw (e, le-leb (length ks) c le, f)
 
-      pub load_fall : (p : ℕ) → first_fault ks ≡ KeyNotRising p → loaded (NotRising p) m ≡ load_of c ks ps m
-      unfolding loaded load_of load_list
-      load_fall p f = rw (e, le-leb (length ks) c le, f)
-
-      pub load_tree-load_of : (x : Call) → first_fault ks ≡ Nothing → x ≡ load_tree c ks ps m → x ≡ load_of c ks ps m
+      pub load_tree-load_of : (x : Call) → first_fault ks ≡ None → x ≡ load_tree c ks ps m → x ≡ load_of c ks ps m
       unfolding load_of load_list
       load_tree-load_of x f q = rw (e, le-leb (length ks) c le, f, q)
 
@@ -123,18 +122,18 @@ module _ (c : ℕ) (ks ps : List ℕ) (m : Mem) (l : Loadable ks ps m) where
       (omega (arith, y.nodes, zero_records)) (omega (arith, y.slots, zero_slots))
 
   -- too few records or slots: no room, and nothing was stored
-  pub load-roomless : (Roomy ks m → ⊥) → loaded NoRoom m ≡ load_tree c ks ps m
+  pub load-roomless : (Roomy ks m → ⊥) → loaded (Err NoRoom) m ≡ load_tree c ks ps m
   unfolding loaded load_tree load_built
   load-roomless lacks = go (build longest_path ks ps (emptied m)).built refl
     where
-      go : (b : Option ℕ) → (build longest_path ks ps (emptied m)).built ≡ b → loaded NoRoom m ≡ load_tree c ks ps m
+      go : (b : Option ℕ) → (build longest_path ks ps (emptied m)).built ≡ b → loaded (Err NoRoom) m ≡ load_tree c ks ps m
       go (Some r) e = absurd (lacks (built_roomy r e))
       go None e = rw e
 
   module _ (y : Roomy ks m) (b : Option ℕ) (after : Mem) (e : out b after ≡ build longest_path ks ps (emptied m)) where
     pub load-done : (r : ℕ) (h : Handle) → b ≡ Some r
         → h ≡ new_handle r (length ks) c (records_in m.nodes) (slots_in m.slots)
-        → loaded (Done h) after ≡ load_tree c ks ps m
+        → loaded (Ok h) after ≡ load_tree c ks ps m
     unfolding loaded load_tree load_built
     load-done r h f g = rw (← e, f, g)
 

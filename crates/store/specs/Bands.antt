@@ -1,17 +1,18 @@
 -- Band (document 01, "The calls"): "lists elements with u <= key <= v in key order into the lent output, as many as fit, and says how
 -- many and whether more remain. Output past that number is untouched. Its walk takes, in each node, the slots from that of u to that
 -- of v, and stops at the first element beyond the output's room." Refusals: 1, 2, 3, 9. Definitions only.
-use Rattle.std.specs.Prelude.{false, ◌&&◌, List, [], ◌∷◌, map, ℕ, ltb, leb, eqb, length, get_or}
+use Rattle.std.specs.Prelude.{false, ◌&&◌, List, [], ◌∷◌, map, ℕ, ltb, leb, eqb, length, get_or, Result, Ok, Err}
 use Rattle.std.proofs.lemmas.List.Edits.{sets}
-use Rattle.laws.specs.Answers.{Answer, done, refused, wrong_sizes, out_of_range, reversed, damage}
+use Rattle.laws.specs.Answers.{Answer, as_number, done, refused, wrong_sizes, out_of_range, reversed, damage}
 use Rattle.laws.specs.Keys.{key_bound}
 use Rattle.laws.specs.Pick.{pick}
 use Rattle.listing.specs.Listing.{Listing, listing}
 use Rattle.pool.specs.Memory.{Mem, records_in, payload_word}
 use Rattle.store.specs.Handles.{handle_fits}
+use Rattle.laws.specs.Refusals.{refusal}
+use Rattle.laws.specs.declared.Refusal.{Refusal}
+use Rattle.listing.specs.declared.Listed.{Listed}
 use Rattle.store.specs.declared.Handle.{Handle}
-use Rattle.store.specs.declared.Listed.{Listed}
-use Rattle.store.specs.declared.Listed.TheVariants.{Done, WrongSizes, OutOfRange, Reversed, Damage}
 use Rattle.walk.specs.Events.{events_of}
 use Rattle.walk.specs.Items.{items}
 use Rattle.walk.specs.declared.Item.{Item}
@@ -39,7 +40,7 @@ band a ks ps = record { answer = a; keys = ks; payloads = ps }
 unfoldable pub band_out : Mem → Listing → List ℕ → List ℕ → Band
 band_out m l ks ps =
     pick l.sound
-    (band (done (length l.keys ∷ l.more ∷ [])) (sets ks 0 l.keys) (sets ps 0 (map (λ (q : ℕ). get_or m.slots (payload_word q) 0) l.places)))
+    (band (done (length l.keys ∷ as_number l.more ∷ [])) (sets ks 0 l.keys) (sets ps 0 (map (λ (q : ℕ). get_or m.slots (payload_word q) 0) l.places)))
     (band (refused damage) ks ps)
 
 unfoldable pub band_of : Handle → ℕ → ℕ → Mem → List ℕ → List ℕ → Band
@@ -51,9 +52,6 @@ band_of h u v m ks ps =
     (band (refused wrong_sizes) ks ps)
 
 -- what each case of the code's answer is in document 01
-unfoldable pub listed : Listed → Answer ℕ
-listed (Done n more) = done (n ∷ more ∷ [])
-listed WrongSizes = refused wrong_sizes
-listed OutOfRange = refused out_of_range
-listed Reversed = refused reversed
-listed Damage = refused damage
+unfoldable pub listed : Result Listed Refusal → Answer ℕ
+listed (Ok l) = done (l.count ∷ as_number l.more ∷ [])
+listed (Err e) = refusal e

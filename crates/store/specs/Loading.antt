@@ -1,7 +1,7 @@
 -- Load (document 01, "The calls": "takes rising keys with payloads, treats the pools as empty, and builds"), on every input: the
 -- answer, the handle and every lent word. Refusals: "1, 7, then the first place with 2 or 4 (2 wins at one place), 8"; a refused load
 -- gives zeros for its handle and changes nothing. Definitions only.
-use Rattle.std.specs.Prelude.{Bool, ◌&&◌, List, [], ◌∷◌, ◌≡◌, ℕ, ◌+◌, ◌≤◌, ltb, leb, eqb, length, replicate, None, Option, Some}
+use Rattle.std.specs.Prelude.{Bool, ◌&&◌, List, [], ◌∷◌, ◌≡◌, ℕ, ◌+◌, ◌≤◌, ltb, leb, eqb, length, replicate, None, Option, Some, Result, Ok, Err}
 use Rattle.build.specs.Building.{Out, build}
 use Rattle.build.specs.Sizes.{sizes_of, total}
 use Rattle.laws.specs.Answers.{done, refused, refused_with, wrong_sizes, out_of_range, not_rising, full, no_room}
@@ -12,18 +12,20 @@ use Rattle.pool.specs.Memory.{Mem, mem, records_in, slots_in}
 use Rattle.store.specs.Calls.{Call, call}
 use Rattle.store.specs.Handles.{new_handle, most_records, most_pool_slots, map_words, limits_hold, pools_are, no_handle}
 use Rattle.store.specs.declared.Fault.{Fault}
-use Rattle.store.specs.declared.Fault.TheVariants.{Nothing, OutOfRange as KeyOutOfRange, NotRising as KeyNotRising}
-use Rattle.store.specs.declared.Loaded.{Loaded}
-use Rattle.store.specs.declared.Loaded.TheVariants.{Done, WrongSizes, Full, OutOfRange, NotRising, NoRoom}
+use Rattle.store.specs.declared.Fault.TheVariants.{OutOfRange as KeyOutOfRange, NotRising as KeyNotRising}
+use Rattle.store.specs.declared.Handle.{Handle}
+use Rattle.laws.specs.Refusals.{refusal}
+use Rattle.laws.specs.declared.Refusal.{Refusal}
+use Rattle.laws.specs.declared.Refusal.TheVariants.{OutOfRange, NotRising}
 use Rattle.walk.specs.Walks.{longest_path}
 
 -- the first fault of a list from place i on, where a key below `least` is not above its forerunner
-unfoldable pub fault_from : ℕ → ℕ → List ℕ → Fault
-fault_from i least [] = Nothing
+unfoldable pub fault_from : ℕ → ℕ → List ℕ → Option Fault
+fault_from i least [] = None
 fault_from i least (k ∷ ks) =
-    pick (ltb k key_bound) (pick (leb least k) (fault_from (i + 1) (k + 1) ks) (KeyNotRising i)) KeyOutOfRange
+    pick (ltb k key_bound) (pick (leb least k) (fault_from (i + 1) (k + 1) ks) (Some (KeyNotRising i))) (Some KeyOutOfRange)
 
-unfoldable pub first_fault : List ℕ → Fault
+unfoldable pub first_fault : List ℕ → Option Fault
 first_fault ks = fault_from 0 0 ks
 
 -- the pools as if empty: zeros
@@ -49,10 +51,10 @@ load_from capacity count m o = load_built capacity count m o.built o.memory
 unfoldable pub load_tree : ℕ → List ℕ → List ℕ → Mem → Call
 load_tree capacity ks ps m = load_from capacity (length ks) m (build longest_path ks ps (emptied m))
 
-unfoldable pub load_list : ℕ → List ℕ → List ℕ → Mem → Fault → Call
-load_list capacity ks ps m Nothing = load_tree capacity ks ps m
-load_list capacity ks ps m KeyOutOfRange = call (refused out_of_range) no_handle m
-load_list capacity ks ps m (KeyNotRising p) = call (refused_with not_rising (p ∷ [])) no_handle m
+unfoldable pub load_list : ℕ → List ℕ → List ℕ → Mem → Option Fault → Call
+load_list capacity ks ps m None = load_tree capacity ks ps m
+load_list capacity ks ps m (Some KeyOutOfRange) = call (refused out_of_range) no_handle m
+load_list capacity ks ps m (Some (KeyNotRising p)) = call (refused_with not_rising (p ∷ [])) no_handle m
 
 unfoldable pub load_of : ℕ → List ℕ → List ℕ → Mem → Call
 load_of capacity ks ps m =
@@ -61,13 +63,14 @@ load_of capacity ks ps m =
     (call (refused wrong_sizes) no_handle m)
 
 -- what each case of the code's answer is in document 01, with its handle and the memory left
-unfoldable pub loaded : Loaded → Mem → Call
-loaded (Done h) m = call (done []) h m
-loaded WrongSizes m = call (refused wrong_sizes) no_handle m
-loaded Full m = call (refused full) no_handle m
-loaded OutOfRange m = call (refused out_of_range) no_handle m
-loaded (NotRising p) m = call (refused_with not_rising (p ∷ [])) no_handle m
-loaded NoRoom m = call (refused no_room) no_handle m
+unfoldable pub loaded : Result Handle Refusal → Mem → Call
+loaded (Ok h) m = call (done []) h m
+loaded (Err e) m = call (refusal e) no_handle m
+
+-- the refusal of a fault
+abbrev pub refusal_for : Fault → Refusal
+refusal_for KeyOutOfRange = OutOfRange
+refusal_for (KeyNotRising p) = NotRising p
 
 -- What the code knows of a list and pools that it builds in.
 pub record Loadable (ks ps : List ℕ) (m : Mem) : Type 0 where

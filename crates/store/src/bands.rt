@@ -3,9 +3,9 @@ ghost use Rattle.std.specs.Prelude.{◌≡◌};
 ghost use Rattle.pool.specs.Memory.{mem};
 ghost use Rattle.store.specs.Bands.{band, band_of, listed};
 
-use crate::{Handle, Listed};
-use laws::Key;
-use listing::Counted;
+use crate::Handle;
+use laws::{Key, Refusal};
+use listing::Listed;
 use pool::Node;
 use walk::{Rules, Span};
 
@@ -19,24 +19,24 @@ pub fn band(
     used: &[u64],
     keys: &mut [u64],
     payloads: &mut [u64],
-) -> Listed
+) -> Result<Listed, Refusal>
     ensures { band (listed result) keys.new payloads.new
         ≡ band_of h u v (mem nodes.now slots.now used.now) keys.old payloads.old }
 {
     if !h.fits(nodes, slots, used) {
-        return Listed::WrongSizes;
+        return Err(Refusal::WrongSizes);
     }
     if keys.len() != payloads.len() {
-        return Listed::WrongSizes;
+        return Err(Refusal::WrongSizes);
     }
     if Key::BOUND <= u {
-        return Listed::OutOfRange;
+        return Err(Refusal::OutOfRange);
     }
     if Key::BOUND <= v {
-        return Listed::OutOfRange;
+        return Err(Refusal::OutOfRange);
     }
     if v < u {
-        return Listed::Reversed;
+        return Err(Refusal::Reversed);
     }
     let span = Span::Between(u, v);
     let rules = Rules {
@@ -46,13 +46,21 @@ pub fn band(
         rebuild: false,
         fresh: 0,
     };
-    match listing::count(nodes, slots, used, span, 0, h.root, rules, u, v, keys.len()) {
-        Counted::Done(n, more) => {
-            let _end = listing::write(
-                nodes, slots, used, span, 0, h.root, rules, u, v, n, keys, payloads, 0,
-            );
-            Listed::Done(n, more)
-        }
-        Counted::Damage => Listed::Damage,
-    }
+    let listed = listing::count(nodes, slots, used, span, 0, h.root, rules, u, v, keys.len())?;
+    let _end = listing::write(
+        nodes,
+        slots,
+        used,
+        span,
+        0,
+        h.root,
+        rules,
+        u,
+        v,
+        listed.count,
+        keys,
+        payloads,
+        0,
+    );
+    Ok(listed)
 }

@@ -4,11 +4,11 @@
 ghost use Rattle.std.specs.Prelude.{◌≡◌, ◌≤◌};
 ghost use Rattle.pool.specs.Memory.{mem};
 ghost use Rattle.store.specs.Calls.{call, search_of, lookup_of, replace_of, looked, changed};
-ghost use Rattle.store.specs.Loading.{first_fault, emptied, load_fits, load_tree, load_of, loaded, Loadable, Roomy};
+ghost use Rattle.store.specs.Loading.{first_fault, refusal_for, emptied, load_fits, load_tree, load_of, loaded, Loadable, Roomy};
 ghost use Rattle.store.specs.Handles.{new_handle, with_root, with_count, handle_fits, limits_hold, pools_are, least_capacity, most_capacity, least_records, most_records, least_pool_slots, most_pool_slots};
 
-use build::{Built, Hint};
-use laws::Key;
+use build::Hint;
+use laws::{Key, Refusal};
 use model::Model;
 use pool::Node;
 use walk::{End, Path};
@@ -89,54 +89,47 @@ impl Handle {
     }
 }
 
-// What load answers: the handle of the new store, or a refusal.
-#[derive(Clone, Copy)]
-pub enum Loaded {
-    Done(Handle),
-    WrongSizes,
-    Full,
-    OutOfRange,
-    NotRising(usize),
-    NoRoom,
-}
-
-// The first fault of a list to load, if it has one.
-#[derive(Clone, Copy)]
-pub enum Fault {
-    Nothing,
+// The first fault of a list to load.
+#[derive(Clone, Copy, Debug, PartialEq, Eq)]
+enum Fault {
     OutOfRange,
     NotRising(usize),
 }
 
-// What lookup answers.
-#[derive(Clone, Copy)]
-pub enum Looked {
-    Found(u64, usize),
-    NotHeld(usize),
-    OutOfRange,
-    WrongSizes,
-    Damage,
+impl From<Fault> for Refusal {
+    ghost from_gives = { λ fault r. r ≡ refusal_for fault };
+
+    fn from(fault: Fault) -> Refusal {
+        match fault {
+            Fault::OutOfRange => Refusal::OutOfRange,
+            Fault::NotRising(place) => Refusal::NotRising(place),
+        }
+    }
 }
 
-// What replace and delete answer.
-#[derive(Clone, Copy)]
-pub enum Changed {
-    Done,
-    NotHeld(usize),
-    OutOfRange,
-    WrongSizes,
-    Damage,
+// Where a key is held, and how many nodes were visited.
+#[derive(Clone, Copy, Debug, PartialEq, Eq)]
+pub struct Held {
+    pub slot: usize,
+    pub visits: usize,
+}
+
+// What lookup finds: the payload, and how many nodes were visited.
+#[derive(Clone, Copy, Debug, PartialEq, Eq)]
+pub struct Looked {
+    pub payload: u64,
+    pub visits: usize,
 }
 
 // What a changing call gives: its answer and the next handle.
 #[derive(Clone, Copy)]
-pub struct Changing {
-    pub answer: Changed,
+pub struct Changing<T> {
+    pub answer: Result<T, Refusal>,
     pub handle: Handle,
 }
 
-impl Changing {
-    pub fn new(answer: Changed, handle: Handle) -> Self
+impl<T> Changing<T> {
+    pub fn new(answer: Result<T, Refusal>, handle: Handle) -> Self
         ensures { result ≡ record { answer = answer; handle = handle } }
     {
         Self { answer, handle }
@@ -186,62 +179,52 @@ fn pools_are(
     used.len() == (records + slots + 63) / 64
 }
 
-// What band answers: how many were listed and whether more remain (0 or 1), or a refusal.
-#[derive(Clone, Copy)]
-pub enum Listed {
-    Done(usize, usize),
-    WrongSizes,
-    OutOfRange,
-    Reversed,
-    Damage,
-}
-
-// Where a key is held, or why there is no telling.
-#[derive(Clone, Copy)]
-pub enum Search {
-    At(usize, usize),
-    NotThere(usize),
-    OutOfRange,
-    WrongSizes,
-    Damage,
-}
-
 // What lookup, replace and delete begin with.
-pub fn find(h: Handle, key: u64, nodes: &[u64], slots: &[u64], used: &[u64]) -> Search
+pub fn find(
+    h: Handle,
+    key: u64,
+    nodes: &[u64],
+    slots: &[u64],
+    used: &[u64],
+) -> Result<Held, Refusal>
     ensures { result ≡ search_of h key (mem nodes.now slots.now used.now) }
 {
     if !h.fits(nodes, slots, used) {
-        return Search::WrongSizes;
+        return Err(Refusal::WrongSizes);
     }
     if Key::BOUND <= key {
-        return Search::OutOfRange;
+        return Err(Refusal::OutOfRange);
     }
     let f = walk::follow(nodes, slots, used, h.root, key);
     let visits = f.visits;
     let end = f.end;
     match end {
-        End::Empty(_slot) => Search::NotThere(visits),
-        End::Key(q, k) => {
+        End::Empty(_slot) => Err(Refusal::NotHeld(visits)),
+        End::Key(slot, k) => {
             if k != key {
-                return Search::NotThere(visits);
+                return Err(Refusal::NotHeld(visits));
             }
-            Search::At(q, visits)
+            Ok(Held { slot, visits })
         }
-        End::Damage(_rule) => Search::Damage,
+        End::Damage(_rule) => Err(Refusal::Damage),
     }
 }
 
 // The payload of a key, with the nodes visited.
-pub fn lookup(h: Handle, key: u64, nodes: &[u64], slots: &[u64], used: &[u64]) -> Looked
+pub fn lookup(
+    h: Handle,
+    key: u64,
+    nodes: &[u64],
+    slots: &[u64],
+    used: &[u64],
+) -> Result<Looked, Refusal>
     ensures { looked result ≡ lookup_of h key (mem nodes.now slots.now used.now) }
 {
-    match find(h, key, nodes, slots, used) {
-        Search::At(q, visits) => Looked::Found(slots[q * Node::SLOT_WORDS + 1], visits),
-        Search::NotThere(visits) => Looked::NotHeld(visits),
-        Search::OutOfRange => Looked::OutOfRange,
-        Search::WrongSizes => Looked::WrongSizes,
-        Search::Damage => Looked::Damage,
-    }
+    let held = find(h, key, nodes, slots, used)?;
+    Ok(Looked {
+        payload: slots[held.slot * Node::SLOT_WORDS + 1],
+        visits: held.visits,
+    })
 }
 
 // Another payload for a key that is held.
@@ -252,24 +235,21 @@ pub fn replace(
     nodes: &[u64],
     slots: &mut [u64],
     used: &[u64],
-) -> Changing
+) -> Changing<()>
     ensures { call (changed result.answer) result.handle (mem nodes.now slots.new used.now)
         ≡ replace_of h key payload (mem nodes.now slots.old used.now) }
 {
     match find(h, key, nodes, slots, used) {
-        Search::At(q, _) => {
-            slots[q * Node::SLOT_WORDS + 1] = payload;
-            Changing::new(Changed::Done, h)
+        Ok(held) => {
+            slots[held.slot * Node::SLOT_WORDS + 1] = payload;
+            Changing::new(Ok(()), h)
         }
-        Search::NotThere(visits) => Changing::new(Changed::NotHeld(visits), h),
-        Search::OutOfRange => Changing::new(Changed::OutOfRange, h),
-        Search::WrongSizes => Changing::new(Changed::WrongSizes, h),
-        Search::Damage => Changing::new(Changed::Damage, h),
+        Err(refusal) => Changing::new(Err(refusal), h),
     }
 }
 
 // The first place with a key out of range or not above its forerunner.
-fn first_fault(keys: &[u64]) -> Fault
+fn first_fault(keys: &[u64]) -> Option<Fault>
     ensures { result ≡ first_fault keys.now }
 {
     let mut least = 0;
@@ -277,15 +257,15 @@ fn first_fault(keys: &[u64]) -> Fault
     while i < keys.len() {
         let k = keys[i];
         if Key::BOUND <= k {
-            return Fault::OutOfRange;
+            return Some(Fault::OutOfRange);
         }
         if k < least {
-            return Fault::NotRising(i);
+            return Some(Fault::NotRising(i));
         }
         least = k + 1;
         i += 1;
     }
-    Fault::Nothing
+    None
 }
 
 // Are the capacity and the lent lists of a load of the right sizes?
@@ -328,7 +308,7 @@ fn load_afresh(
     nodes: &mut [u64],
     slots: &mut [u64],
     used: &mut [u64],
-) -> Loaded
+) -> Result<Handle, Refusal>
     requires loadable { Loadable keys.now payloads.now (mem nodes.old slots.old used.old) }
     requires roomy { Roomy keys.now (mem nodes.old slots.old used.old) }
     ensures { loaded result (mem nodes.new slots.new used.new)
@@ -341,8 +321,8 @@ fn load_afresh(
     let g = build::build_node(keys, payloads, nodes, slots, used, start, Path::LONGEST);
     let b = g.built;
     match b {
-        Built::At(r) => Loaded::Done(Handle::new(r, keys.len(), capacity, records, count)),
-        Built::NoRoom => Loaded::NoRoom,
+        Some(r) => Ok(Handle::new(r, keys.len(), capacity, records, count)),
+        None => Err(Refusal::NoRoom),
     }
 }
 
@@ -354,7 +334,7 @@ fn load_rising(
     nodes: &mut [u64],
     slots: &mut [u64],
     used: &mut [u64],
-) -> Loaded
+) -> Result<Handle, Refusal>
     requires { Loadable keys.now payloads.now (mem nodes.old slots.old used.old) }
     ensures { loaded result (mem nodes.new slots.new used.new)
         ≡ load_tree capacity keys.now payloads.now (mem nodes.old slots.old used.old) }
@@ -362,10 +342,10 @@ fn load_rising(
     let mut first = [0u64; 1];
     let needs = build::sizes::sizes(keys, &mut first, 0, Path::LONGEST);
     if nodes.len() / Node::RECORD_WORDS < needs.nodes {
-        return Loaded::NoRoom;
+        return Err(Refusal::NoRoom);
     }
     if slots.len() / Node::SLOT_WORDS < needs.slots {
-        return Loaded::NoRoom;
+        return Err(Refusal::NoRoom);
     }
     load_afresh(capacity, keys, payloads, nodes, slots, used)
 }
@@ -378,19 +358,18 @@ pub fn load(
     nodes: &mut [u64],
     slots: &mut [u64],
     used: &mut [u64],
-) -> Loaded
+) -> Result<Handle, Refusal>
     ensures { loaded result (mem nodes.new slots.new used.new)
         ≡ load_of capacity keys.now payloads.now (mem nodes.old slots.old used.old) }
 {
     if !load_fits(capacity, keys, payloads, nodes, slots, used) {
-        return Loaded::WrongSizes;
+        return Err(Refusal::WrongSizes);
     }
     if capacity < keys.len() {
-        return Loaded::Full;
+        return Err(Refusal::Full);
     }
-    match first_fault(keys) {
-        Fault::Nothing => load_rising(capacity, keys, payloads, nodes, slots, used),
-        Fault::OutOfRange => Loaded::OutOfRange,
-        Fault::NotRising(place) => Loaded::NotRising(place),
+    if let Some(fault) = first_fault(keys) {
+        return Err(Refusal::from(fault));
     }
+    load_rising(capacity, keys, payloads, nodes, slots, used)
 }

@@ -1,11 +1,11 @@
 -- `store::bands::band` meets its contract, way by way (proofs/BandWays). Assumes nothing.
 use mathlib.Core.Path.{◌≡◌, sym, ◌∙◌}
+use Rattle.std.proofs.lemmas.Result.{err_from_is_err_and}
 use native.Mathlib.Omega.{arith}
 use Rattle.store.specs.Bands.{band_items}
 use Rattle.store.proofs.BandWays.{band-sizes, band_unequal, band-first-out, band_last_out, band-reversed, band-done, band-damage}
 use Rattle.listing.proofs.Counts.{counted_fits}
 use Rattle.listing.proofs.Listings.{listing-within}
-use Rattle.listing.specs.declared.Counted.TheVariants.{Damage}
 use Rattle.store.proofs.bands.band.Goals as goal
 
 pub returns-then-not-fits : goal.returns-then-not-fits
@@ -25,19 +25,18 @@ returns-then-v-u c = band-reversed _ _ _ _ _ _ (sym c.fits.ensures ∙ c.if-not-
 
 pub write-end-requires : goal.write-end-requires
 write-end-requires c =
-    let f = counted_fits _ _ _ _ _ _ (c.in-Done.ensures) in
+    let f = counted_fits _ _ _ _ _ (sym c.in_ok-listed.was ∙ c.count.ensures) in
     let low = c.if-u-ge-BOUND.false in
     let high = c.if-v-ge-BOUND.false in
     let same = c.if-keys-payloads.false in record { span_fits = (omega (arith, low, high), omega (arith, low, high)); above_lt_longest_path = omega arith; count_bound = omega (arith, f); r_in_bounds = listing-within _ _ _ _ _ _ (omega (arith, f)); payloads_len = omega (arith, same) }
 
-pub returns-in-Done : goal.returns-in-Done
+pub returns : goal.returns
 unfolding band_items
-returns-in-Done c =
-    let e = c.in-Done.ensures in
-    band-done _ _ _ _ _ _ (sym c.fits.ensures ∙ c.if-not-fits.false) c.if-keys-payloads.false c.if-u-ge-BOUND.false c.if-v-ge-BOUND.false c.if-v-u.false _ _ e _ _ c.write-end.ensures.keys_after c.write-end.ensures.payloads_after
+returns c =
+    band-done _ _ _ _ _ _ (sym c.fits.ensures ∙ c.if-not-fits.false) c.if-keys-payloads.false c.if-u-ge-BOUND.false c.if-v-ge-BOUND.false c.if-v-u.false _ (sym c.in_ok-listed.was ∙ c.count.ensures) _ _ c.write-end.ensures.keys_after c.write-end.ensures.payloads_after
 
-pub returns-in-Damage : goal.returns-in-Damage
+pub returns-in_err-listed : goal.returns-in_err-listed
 unfolding band_items
-returns-in-Damage c =
-    let e : Damage ≡ c.count.result = cc in
-    band-damage _ _ _ _ _ _ (sym c.fits.ensures ∙ c.if-not-fits.false) c.if-keys-payloads.false c.if-u-ge-BOUND.false c.if-v-ge-BOUND.false c.if-v-u.false (e ∙ c.count.ensures)
+returns-in_err-listed c =
+    let p = err_from_is_err_and c.from_residual.result c.from_residual.ensures.1 in
+    rw (p.1, p.2) (band-damage _ _ _ _ _ _ (sym c.fits.ensures ∙ c.if-not-fits.false) c.if-keys-payloads.false c.if-u-ge-BOUND.false c.if-v-ge-BOUND.false c.if-v-u.false _ (sym c.in_err-listed.was ∙ c.count.ensures))
