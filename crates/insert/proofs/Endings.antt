@@ -12,8 +12,11 @@ use Rattle.insert.proofs.Leaves.{scratch_given}
 use Rattle.insert.proofs.Standings.{leaves}
 use Rattle.insert.specs.Inserting.{Insert, scratch_fits, fresh, settle_of, whole_of, unless_full, insert_end, insert_of, inserted}
 use Rattle.insert.specs.Steps.{Ready, Sized, GoodPath, Ends}
-use Rattle.insert.specs.declared.Inserted.TheVariants.{WrongSizes, OutOfRange, Held, Full, Damage}
-use Rattle.insert.specs.declared.Inserting.{Inserting}
+use Rattle.std.specs.Prelude.{Err}
+use Rattle.insert.specs.declared.Inserted.{Inserted}
+use Rattle.laws.specs.declared.Refusal.TheVariants.{WrongSizes, OutOfRange, Held, Full, Damage}
+use Rattle.pool.specs.declared.Rule.{Rule}
+use Rattle.store.specs.declared.Changing.{Changing}
 use Rattle.laws.specs.Keys.{key_bound}
 use Rattle.pool.specs.Memory.{Mem}
 use Rattle.rebuild.specs.Rebuilding.{Scratch, scratch}
@@ -97,17 +100,17 @@ module _ (m : Mem) (root k : ℕ) (t : Traced) (is : t ≡ trace_of m root k) wh
 
 -- the ways out
 module _ (h : Handle) (k p : ℕ) (m : Mem) (s : Scratch) where
-  pub insert-sizes : (r : Inserting) → r ≡ record { answer = WrongSizes; handle = h } → handle_fits h m ≡ false → leaves r m s ≡ insert_of h k p m s
+  pub insert-sizes : (r : Changing Inserted) → r ≡ record { answer = Err WrongSizes; handle = h } → handle_fits h m ≡ false → leaves r m s ≡ insert_of h k p m s
   unfolding insert_of inserted
   insert-sizes r e f = rw (e, f)
 
   module _ (fits : handle_fits h m ≡ true) where
-    pub insert-scratch : (r : Inserting) → r ≡ record { answer = WrongSizes; handle = h } → scratch_fits h.capacity s ≡ false → leaves r m s ≡ insert_of h k p m s
+    pub insert-scratch : (r : Changing Inserted) → r ≡ record { answer = Err WrongSizes; handle = h } → scratch_fits h.capacity s ≡ false → leaves r m s ≡ insert_of h k p m s
     unfolding insert_of inserted
     insert-scratch r e f = rw (e, fits, f)
 
     module _ (long : scratch_fits h.capacity s ≡ true) where
-      pub insert-range : (r : Inserting) → r ≡ record { answer = OutOfRange; handle = h } → key_bound ≤ k → leaves r m s ≡ insert_of h k p m s
+      pub insert-range : (r : Changing Inserted) → r ≡ record { answer = Err OutOfRange; handle = h } → key_bound ≤ k → leaves r m s ≡ insert_of h k p m s
       unfolding insert_of inserted
       insert-range r e f = rw (e, fits, long, le-ltb k key_bound f)
 
@@ -117,12 +120,12 @@ module _ (h : Handle) (k p : ℕ) (m : Mem) (s : Scratch) where
         unfolding insert_of
         at_end = rw (fits, long, lt-ltb k key_bound low, traced_whole m h.root k t is, traced_end m h.root k t is)
 
-        pub insert-damage : (r : Inserting) (c : ℕ) → r ≡ record { answer = Damage; handle = h } → t.end ≡ EndDamage c → leaves r m s ≡ insert_of h k p m s
+        pub insert-damage : (r : Changing Inserted) (c : Rule) → r ≡ record { answer = Err Damage; handle = h } → t.end ≡ EndDamage c → leaves r m s ≡ insert_of h k p m s
         unfolding insert_end inserted
         insert-damage r c e f = rw e (rw f at at_end)
 
         module _ (q : ℕ) (f : t.end ≡ Empty q) where
-          pub insert-null-full : (r : Inserting) → r ≡ record { answer = Full; handle = h } → h.capacity ≤ h.count → leaves r m s ≡ insert_of h k p m s
+          pub insert-null-full : (r : Changing Inserted) → r ≡ record { answer = Err Full; handle = h } → h.capacity ≤ h.count → leaves r m s ≡ insert_of h k p m s
           unfolding insert_end unless_full inserted
           insert-null-full r e g = rw e (rw (f, le-ltb h.count h.capacity g) at at_end)
 
@@ -131,12 +134,12 @@ module _ (h : Handle) (k p : ℕ) (m : Mem) (s : Scratch) where
           insert-null x g e = e ∙ rw (f, lt-ltb h.count h.capacity g) at at_end
 
         module _ (q j : ℕ) (f : t.end ≡ Key q j) where
-          pub insert-held : (r : Inserting) → r ≡ record { answer = Held; handle = h } → j ≡ k → leaves r m s ≡ insert_of h k p m s
+          pub insert-held : (r : Changing Inserted) → r ≡ record { answer = Err Held; handle = h } → j ≡ k → leaves r m s ≡ insert_of h k p m s
           unfolding insert_end inserted
           insert-held r e g = rw e (rw (f, eq-eqb j k g) at at_end)
 
           module _ (other : j ≡ k → ⊥) where
-            pub insert-full : (r : Inserting) → r ≡ record { answer = Full; handle = h } → h.capacity ≤ h.count → leaves r m s ≡ insert_of h k p m s
+            pub insert-full : (r : Changing Inserted) → r ≡ record { answer = Err Full; handle = h } → h.capacity ≤ h.count → leaves r m s ≡ insert_of h k p m s
             unfolding insert_end unless_full inserted
             insert-full r e g = rw e (rw (f, ne_eqb j k other, le-ltb h.count h.capacity g) at at_end)
 

@@ -16,6 +16,7 @@ use Rattle.laws.proofs.Tests.{and_both}
 use Rattle.model.proofs.Slots.{slot_under}
 use Rattle.model.specs.Slots.{value_of, slot_of}
 use Rattle.pool.proofs.Nodes.{GoodNode, good-node}
+use Rattle.pool.specs.declared.Rule.{Rule}
 use Rattle.pool.specs.Memory.{Mem, slots_in}
 use Rattle.pool.specs.Reading.{node_in, node_at}
 use Rattle.pool.specs.Writing.{put_data, put_child}
@@ -83,7 +84,7 @@ module _ (path : Path) (s : Sized path) where
       above_good : GoodNode m (get_or path.nodes (i - 1) 0) (node_in m.nodes (get_or path.nodes (i - 1) 0))
       above_good = good-node m _ _ (g (i - 1) (omega arith))
 
-      pub above_not_broken : (c : ℕ) → node_at m (get_or path.nodes (i - 1) 0) ≡ Err c → ⊥
+      pub above_not_broken : (c : Rule) → node_at m (get_or path.nodes (i - 1) 0) ≡ Err c → ⊥
       above_not_broken c e =
           let z : Ok (node_in m.nodes (get_or path.nodes (i - 1) 0)) ≡ Err c = sym (g (i - 1) (omega arith)) ∙ e in
           let y : ◌≡◌ {A = ℕ} 0 1 = cc in

@@ -1,5 +1,5 @@
 -- The tidying of an insert and the whole rebuild, way by way, and what each asks. Assumes nothing.
-use Rattle.std.specs.Prelude.{None, Option, Some}
+use Rattle.std.specs.Prelude.{None, Option, Some, Err}
 use mathlib.Core.Bool.{Bool, true, false}
 use mathlib.Core.List.{List}
 use mathlib.Core.Path.{◌≡◌, refl, sym, ap, subst⁻¹, ◌∙◌}
@@ -14,10 +14,12 @@ use Rattle.build.specs.Sizes.{depth_of}
 use Rattle.counters.specs.Counters.{due_in}
 use Rattle.insert.proofs.Leaves.{path-length, path-place}
 use Rattle.insert.proofs.Standings.{leaves, done_at}
-use Rattle.insert.specs.Inserting.{Insert, not_due, put_off, whole_tree, Fresh, fresh, held_payload, slot_above, sound_due, standing, replaced, tidy_ends, tidy_of, pair_ends, settle_at, settle_of, whole_ends, whole_of, inserted}
+use Rattle.insert.specs.Inserting.{Insert, not_due, put_off, Fresh, fresh, held_payload, slot_above, sound_due, standing, replaced, tidy_ends, tidy_of, pair_ends, settle_at, settle_of, whole_ends, whole_of, inserted}
 use Rattle.insert.specs.Steps.{Ready, Sized}
-use Rattle.insert.specs.declared.Inserted.TheVariants.{NoRoom, Damage}
-use Rattle.insert.specs.declared.Inserting.{Inserting}
+use Rattle.insert.specs.declared.Inserted.{Inserted}
+use Rattle.insert.specs.declared.Tidying.TheVariants.{WholeTree}
+use Rattle.laws.specs.declared.Refusal.TheVariants.{NoRoom, Damage}
+use Rattle.store.specs.declared.Changing.{Changing}
 use Rattle.laws.proofs.Tests.{both}
 use Rattle.pool.proofs.Growth.{Grows}
 use Rattle.pool.specs.Memory.{Mem, records_in}
@@ -150,7 +152,7 @@ still_sound capacity k path i m sound c a p b q x m' e =
 
 -- the steps before it
 module _ (h : Handle) (k p q : ℕ) (c : Bool) (j : ℕ) (path : List ℕ) (m : Mem) (s : Scratch) (i : ℕ) (due : i ≡ due_in m.nodes c path) where
-  pub settle-damage : (r : Inserting) → r ≡ record { answer = Damage; handle = h } → sound_due h.capacity k path i m ≡ false
+  pub settle-damage : (r : Changing Inserted) → r ≡ record { answer = Err Damage; handle = h } → sound_due h.capacity k path i m ≡ false
       → leaves r m s ≡ settle_of h (fresh k p q c j path) m s
   unfolding settle_of settle_at inserted
   settle-damage r e f = rw (← due, e, f)
@@ -161,7 +163,7 @@ module _ (h : Handle) (k p q : ℕ) (c : Bool) (j : ℕ) (path : List ℕ) (m : 
     unfolding settle_of settle_at
     settle_is = rw (← due, sound, ← slot, ← pair)
 
-    pub settle-roomless : (r : Inserting) → r ≡ record { answer = NoRoom; handle = h } → PairFits c k j → b ≡ None → leaves r m' s ≡ settle_of h (fresh k p q c j path) m s
+    pub settle-roomless : (r : Changing Inserted) → r ≡ record { answer = Err NoRoom; handle = h } → PairFits c k j → b ≡ None → leaves r m' s ≡ settle_of h (fresh k p q c j path) m s
     unfolding pair_ends inserted
     settle-roomless r e f g =
         let n : (pair_if c k p j (held_payload (fresh k p q c j path) m) m).built ≡ None = sym (ap (λ (o : Out). o.built) pair) ∙ g in
@@ -173,8 +175,8 @@ module _ (h : Handle) (k p q : ℕ) (c : Bool) (j : ℕ) (path : List ℕ) (m : 
     settle-tidy x d g e = e ∙ tidy_before h (fresh k p q c j path) i above d m m' s sound (paired_grows c k p j _ m b m' pair) ∙ (rw g at settle_is)
 
 -- the whole tree
-module _ (h : Handle) (k p : ℕ) (m : Mem) (s : Scratch) (r : Inserting) where
-  pub whole-damage : r ≡ record { answer = Damage; handle = h } → sound_below h.capacity k 0 h.root m ≡ false → leaves r m s ≡ whole_of h k p m s
+module _ (h : Handle) (k p : ℕ) (m : Mem) (s : Scratch) (r : Changing Inserted) where
+  pub whole-damage : r ≡ record { answer = Err Damage; handle = h } → sound_below h.capacity k 0 h.root m ≡ false → leaves r m s ≡ whole_of h k p m s
   unfolding whole_of inserted
   whole-damage e f = rw (e, f)
 
@@ -184,11 +186,11 @@ module _ (h : Handle) (k p : ℕ) (m : Mem) (s : Scratch) (r : Inserting) where
     unfolding whole_of
     whole_is = rw (sound, ← is)
 
-    pub whole-done : (t : ℕ) → b ≡ Some t → r ≡ done_at t h true whole_tree → leaves r m' s' ≡ whole_of h k p m s
+    pub whole-done : (t : ℕ) → b ≡ Some t → r ≡ done_at t h true WholeTree → leaves r m' s' ≡ whole_of h k p m s
     unfolding whole_ends inserted
     whole-done t f e = rw e (rw f at whole_is)
 
-    pub whole-roomless : b ≡ None → r ≡ record { answer = NoRoom; handle = h } → leaves r m' s' ≡ whole_of h k p m s
+    pub whole-roomless : b ≡ None → r ≡ record { answer = Err NoRoom; handle = h } → leaves r m' s' ≡ whole_of h k p m s
     unfolding whole_ends inserted
     whole-roomless f e =
         let g : (rebuild_of h.capacity k p 0 h.root m s).out.built ≡ None = sym (ap (λ (y : Rebuilt). y.out.built) is) ∙ f in

@@ -1,9 +1,9 @@
 -- Insert (document 01, "The calls" and "Numbers of the answers"), on every input: the answer, the next handle, every word of the pools
 -- and of scratch. Refusals come in the order 1, 2, 9 on the path, 5, 7, 9 in a subtree to be rebuilt, 8. Definitions only.
-use Rattle.std.specs.Prelude.{Bool, true, false, ◌&&◌, List, [], ◌∷◌, ℕ, zero, suc, ◌+◌, ltb, leb, eqb, length, get_or, take, None, Option, Some}
+use Rattle.std.specs.Prelude.{Bool, true, false, ◌&&◌, List, [], ◌∷◌, ℕ, zero, suc, ◌+◌, ltb, leb, eqb, length, get_or, take, None, Option, Some, Result, Ok, Err}
 use Rattle.build.specs.Building.{Out}
 use Rattle.counters.specs.Counters.{due_in, raise}
-use Rattle.laws.specs.Answers.{Answer, done, refused, wrong_sizes, out_of_range, held, full, no_room, damage}
+use Rattle.laws.specs.Answers.{Answer, as_number, done, refused, wrong_sizes, out_of_range, held, full, no_room, damage}
 use Rattle.laws.specs.Keys.{key_bound}
 use Rattle.laws.specs.Pick.{pick}
 use Rattle.pool.specs.Memory.{Mem, mem, payload_word}
@@ -18,7 +18,10 @@ use Rattle.walk.specs.Walks.{longest_path, key_slot, walk_of}
 use Rattle.walk.specs.declared.End.{End}
 use Rattle.walk.specs.declared.End.TheVariants.{Empty, Key, Damage as EndDamage}
 use Rattle.insert.specs.declared.Inserted.{Inserted}
-use Rattle.insert.specs.declared.Inserted.TheVariants.{Done, WrongSizes, OutOfRange, Held, Full, NoRoom, Damage}
+use Rattle.insert.specs.declared.Tidying.{Tidying}
+use Rattle.insert.specs.declared.Tidying.TheVariants.{NotDue, Tidied, PutOff, WholeTree}
+use Rattle.laws.specs.Refusals.{refusal}
+use Rattle.laws.specs.declared.Refusal.{Refusal}
 
 -- what an insert leaves: its answer, the next handle, the memory, scratch
 pub record Insert : Type 0 where
@@ -48,8 +51,11 @@ put_off = 2
 abbrev pub whole_tree : ℕ
 whole_tree = 3
 
-abbrev pub as_number : Bool → ℕ
-as_number b = pick b 1 0
+abbrev pub tidying_number : Tidying → ℕ
+tidying_number NotDue = not_due
+tidying_number Tidied = tidied
+tidying_number PutOff = put_off
+tidying_number WholeTree = whole_tree
 
 -- one key more, under a root that may be new
 abbrev pub one_more_at : ℕ → Handle → Handle
@@ -175,11 +181,6 @@ insert_of h k p m s =
     (insertion (refused wrong_sizes) h m s)
 
 -- what each case of the code's answer is in document 01
-unfoldable pub inserted : Inserted → Answer ℕ
-inserted (Done c t) = done (c ∷ t ∷ [])
-inserted WrongSizes = refused wrong_sizes
-inserted OutOfRange = refused out_of_range
-inserted Held = refused held
-inserted Full = refused full
-inserted NoRoom = refused no_room
-inserted Damage = refused damage
+unfoldable pub inserted : Result Inserted Refusal → Answer ℕ
+inserted (Ok d) = done (as_number d.conflict ∷ tidying_number d.tidying ∷ [])
+inserted (Err e) = refusal e

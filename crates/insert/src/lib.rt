@@ -1,49 +1,60 @@
 // Insert: a key put in with its payload, and the due node nearest the root tidied.
 #![tactic(auto)]
 
-ghost use Rattle.std.specs.Prelude.{true, ◌≡◌, ◌^◌, ◌<◌, ◌≤◌, take};
+ghost use Rattle.std.specs.Prelude.{true, ◌≡◌, ◌^◌, ◌<◌, ◌≤◌, take, is_some, unwrap_or};
 ghost use Rattle.counters.specs.Counters.{OnPath};
-ghost use Rattle.insert.specs.declared.Inserted.TheVariants as Inserted;
-ghost use Rattle.insert.specs.Inserting.{as_number, one_more_at, fresh, insertion, inserted, scratch_fits, settled, slot_above, hung, sound_due, standing, replaced, tidy_of, settle_of, whole_of, insert_of};
+ghost use Rattle.insert.specs.Inserting.{one_more_at, tidying_number, insertion, inserted, scratch_fits, settled, slot_above, hung, sound_due, standing, replaced, tidy_of, settle_of, whole_of, insert_of};
+ghost use Rattle.insert.specs.Entries.{fresh_of};
 ghost use Rattle.insert.specs.Steps.{Ready, Sized, GoodPath, Ends, Stores};
 ghost use Rattle.laws.specs.Keys.{key_bound};
 ghost use Rattle.pool.specs.Memory.{mem, slots_in};
 ghost use Rattle.rebuild.specs.Judging.{Pooled};
 ghost use Rattle.rebuild.specs.Rebuilding.{Scratch, scratch};
 
-use build::Built;
-use laws::Key;
-use pool::{Node, Record};
-use store::Handle;
+use laws::{Key, Refusal};
+use pool::Node;
+use store::{Changing, Handle};
 use walk::{End, Path};
 
-// What insert answers: conflict (0 or 1) and tidying, or a refusal.
-#[derive(Clone, Copy)]
-pub enum Inserted {
-    Done(usize, usize),
-    WrongSizes,
-    OutOfRange,
-    Held,
-    Full,
-    NoRoom,
-    Damage,
+// What an insert did about the due node nearest the root.
+#[derive(Clone, Copy, Debug, PartialEq, Eq)]
+pub enum Tidying {
+    NotDue,
+    Tidied,
+    PutOff,
+    WholeTree,
 }
 
-impl Inserted {
-    pub const NOT_DUE: usize = 0;
-
-    pub const TIDIED: usize = 1;
-
-    pub const PUT_OFF: usize = 2;
-
-    pub const WHOLE_TREE: usize = 3;
+impl Tidying {
+    // The number that the answer gives.
+    pub fn number(self) -> usize
+        ensures { result ≡ tidying_number self }
+    {
+        match self {
+            Tidying::NotDue => 0,
+            Tidying::Tidied => 1,
+            Tidying::PutOff => 2,
+            Tidying::WholeTree => 3,
+        }
+    }
 }
 
-// What an insert gives: its answer and the next handle.
+// What an insert answers that is done: whether its slot held another key, and the tidying.
+#[derive(Clone, Copy, Debug, PartialEq, Eq)]
+pub struct Inserted {
+    pub conflict: bool,
+    pub tidying: Tidying,
+}
+
+// A key that is neither held nor too many, with its payload, the nodes on its path and the slot at its end, where in a conflict
+// another key stands.
 #[derive(Clone, Copy)]
-pub struct Inserting {
-    pub answer: Inserted,
-    pub handle: Handle,
+struct Entry {
+    key: u64,
+    payload: u64,
+    path: Path,
+    slot: usize,
+    other: Option<u64>,
 }
 
 // Is scratch as long as the capacity, and are its lists equally long?
@@ -91,7 +102,7 @@ fn slot_above(key: u64, path: Path, at: usize, nodes: &[u64], slots: &[u64], use
         return 0;
     }
     let r = path.nodes[at - 1];
-    let Record::Good(n) = pool::node_at(nodes, slots, used, r) else {
+    let Ok(n) = pool::node_at(nodes, slots, used, r) else {
         return 0;
     };
     let m = n.model;
@@ -130,66 +141,39 @@ fn one_more(h: Handle, root: usize) -> Handle
     h.with_root(root).with_count(h.count + 1)
 }
 
-fn as_number(conflict: bool) -> usize
-    ensures { result ≡ as_number conflict }
-{
-    if conflict { 1 } else { 0 }
-}
-
-fn done(h: Handle, root: usize, conflict: bool, tidying: usize) -> Inserting
+fn done(h: Handle, root: usize, conflict: bool, tidying: Tidying) -> Changing<Inserted>
     requires { h.count < h.capacity }
-    ensures { result ≡ record { answer = Inserted.Done (as_number conflict) tidying; handle = one_more_at root h } }
+    ensures { result ≡ record { answer = Ok (record { conflict = conflict; tidying = tidying }); handle = one_more_at root h } }
 {
-    let c = as_number(conflict);
-    let handle = one_more(h, root);
-    Inserting {
-        answer: Inserted::Done(c, tidying),
-        handle,
-    }
-}
-
-// A refusal, with the handle as it was given.
-fn refuse(h: Handle, answer: Inserted) -> Inserting
-    ensures { result ≡ record { answer = answer; handle = h } }
-{
-    Inserting { answer, handle: h }
+    Changing::new(Ok(Inserted { conflict, tidying }), one_more(h, root))
 }
 
 // The insert stands with its counters.
 fn stand(
     h: Handle,
-    key: u64,
-    payload: u64,
-    q: usize,
-    conflict: bool,
-    other: u64,
-    path: Path,
-    tidying: usize,
+    entry: Entry,
+    tidying: Tidying,
     c: usize,
     nodes: &mut [u64],
     slots: &mut [u64],
     used: &[u64],
-) -> Inserting
+) -> Changing<Inserted>
     requires count_lt_capacity { h.count < h.capacity }
-    requires key_lt_key_bound { key < key_bound }
-    requires stores { Stores q c 0 0 path (mem nodes.old slots.old used.now) }
+    requires key_lt_key_bound { entry.key < key_bound }
+    requires stores { Stores entry.slot c 0 0 entry.path (mem nodes.old slots.old used.now) }
     ensures { (s : Scratch) → insertion (inserted result.answer) result.handle (mem nodes.new slots.new used.now) s
-        ≡ standing h (fresh key payload q conflict other (take path.len path.nodes)) tidying c (mem nodes.old slots.old used.now) s }
+        ≡ standing h (fresh_of entry) (tidying_number tidying) c (mem nodes.old slots.old used.now) s }
 {
-    settle_slot(conflict, q, key, payload, c, slots);
-    counters::raise(nodes, path, path.len, conflict);
+    let conflict = entry.other.is_some();
+    settle_slot(conflict, entry.slot, entry.key, entry.payload, c, slots);
+    counters::raise(nodes, entry.path, entry.path.len, conflict);
     done(h, h.root, conflict, tidying)
 }
 
 // The node at place `at` of the path is rebuilt, and r is the new one: zeroing, the slot above, counters of the nodes not released.
 fn replace_at(
     h: Handle,
-    key: u64,
-    payload: u64,
-    q: usize,
-    conflict: bool,
-    other: u64,
-    path: Path,
+    entry: Entry,
     at: usize,
     above: usize,
     c: usize,
@@ -197,33 +181,29 @@ fn replace_at(
     nodes: &mut [u64],
     slots: &mut [u64],
     used: &mut [u64],
-) -> Inserting
+) -> Changing<Inserted>
     requires count_lt_capacity { h.count < h.capacity }
     requires pooled { Pooled (mem nodes.old slots.old used.old) }
-    requires stores { Stores q c at above path (mem nodes.old slots.old used.old) }
+    requires stores { Stores entry.slot c at above entry.path (mem nodes.old slots.old used.old) }
     requires r_bound { r < 2 ^ 48 }
     ensures { (s : Scratch) → insertion (inserted result.answer) result.handle (mem nodes.new slots.new used.new) s
-        ≡ replaced h (fresh key payload q conflict other (take path.len path.nodes)) at above c r (mem nodes.old slots.old used.old) s }
+        ≡ replaced h (fresh_of entry) at above c r (mem nodes.old slots.old used.old) s }
 {
+    let conflict = entry.other.is_some();
     rebuild::pairs::drop_pair(conflict, c, nodes, slots, used);
     hang(at, above, r, slots);
-    counters::raise(nodes, path, at, conflict);
+    counters::raise(nodes, entry.path, at, conflict);
     if at < 1 {
-        return done(h, r, conflict, Inserted::TIDIED);
+        return done(h, r, conflict, Tidying::Tidied);
     }
-    done(h, h.root, conflict, Inserted::TIDIED)
+    done(h, h.root, conflict, Tidying::Tidied)
 }
 
 // The due node is tidied, if there is one; a tidying without room is put off. The keys are read in the memory as it is here, which has the
 // two-key node already.
 fn tidy(
     h: Handle,
-    key: u64,
-    payload: u64,
-    q: usize,
-    conflict: bool,
-    other: u64,
-    path: Path,
+    entry: Entry,
     at: usize,
     above: usize,
     c: usize,
@@ -233,96 +213,75 @@ fn tidy(
     keys: &mut [u64],
     payloads: &mut [u64],
     places: &mut [u64],
-) -> Inserting
-    requires ready { Ready h key (mem nodes.old slots.old used.old) (scratch keys.old payloads.old places.old) }
-    requires stores { Stores q c at above path (mem nodes.old slots.old used.old) }
-    requires used_value { sound_due h.capacity key (take path.len path.nodes) at (mem nodes.old slots.old used.old) ≡ true }
+) -> Changing<Inserted>
+    requires ready { Ready h entry.key (mem nodes.old slots.old used.old) (scratch keys.old payloads.old places.old) }
+    requires stores { Stores entry.slot c at above entry.path (mem nodes.old slots.old used.old) }
+    requires used_value { sound_due h.capacity entry.key (take entry.path.len entry.path.nodes) at (mem nodes.old slots.old used.old) ≡ true }
     ensures { insertion (inserted result.answer) result.handle (mem nodes.new slots.new used.new)
         (scratch keys.new payloads.new places.new)
-        ≡ tidy_of h (fresh key payload q conflict other (take path.len path.nodes)) at above c (mem nodes.old slots.old used.old)
+        ≡ tidy_of h (fresh_of entry) at above c (mem nodes.old slots.old used.old)
         (mem nodes.old slots.old used.old) (scratch keys.old payloads.old places.old) }
 {
-    if path.len <= at {
-        return stand(
-            h,
-            key,
-            payload,
-            q,
-            conflict,
-            other,
-            path,
-            Inserted::NOT_DUE,
-            c,
-            nodes,
-            slots,
-            used,
-        );
+    if entry.path.len <= at {
+        return stand(h, entry, Tidying::NotDue, c, nodes, slots, used);
     }
-    let top = path.nodes[at];
+    let top = entry.path.nodes[at];
     match rebuild::rebuild(
-        h.capacity, key, payload, at, top, nodes, slots, used, keys, payloads, places,
+        h.capacity,
+        entry.key,
+        entry.payload,
+        at,
+        top,
+        nodes,
+        slots,
+        used,
+        keys,
+        payloads,
+        places,
     ) {
-        Built::At(r) => {
-            replace_at(
-                h, key, payload, q, conflict, other, path, at, above, c, r, nodes, slots, used,
-            )
-        }
-        Built::NoRoom => {
-            stand(
-                h,
-                key,
-                payload,
-                q,
-                conflict,
-                other,
-                path,
-                Inserted::PUT_OFF,
-                c,
-                nodes,
-                slots,
-                used,
-            )
-        }
+        Some(r) => replace_at(h, entry, at, above, c, r, nodes, slots, used),
+        None => stand(h, entry, Tidying::PutOff, c, nodes, slots, used),
     }
 }
 
 // A key that is neither held nor too many: damage in the subtree to be rebuilt, then the two-key node's places, then the tidying.
 fn settle(
     h: Handle,
-    key: u64,
-    payload: u64,
-    q: usize,
-    conflict: bool,
-    other: u64,
-    path: Path,
+    entry: Entry,
     nodes: &mut [u64],
     slots: &mut [u64],
     used: &mut [u64],
     keys: &mut [u64],
     payloads: &mut [u64],
     places: &mut [u64],
-) -> Inserting
-    requires ready { Ready h key (mem nodes.old slots.old used.old) (scratch keys.old payloads.old places.old) }
-    requires ends { Ends key q conflict other path (mem nodes.old slots.old used.old) }
+) -> Changing<Inserted>
+    requires ready { Ready h entry.key (mem nodes.old slots.old used.old) (scratch keys.old payloads.old places.old) }
+    requires ends { Ends entry.key entry.slot (is_some entry.other) (unwrap_or entry.other 0) entry.path (mem nodes.old slots.old used.old) }
     ensures { insertion (inserted result.answer) result.handle (mem nodes.new slots.new used.new)
         (scratch keys.new payloads.new places.new)
-        ≡ settle_of h (fresh key payload q conflict other (take path.len path.nodes)) (mem nodes.old slots.old used.old)
+        ≡ settle_of h (fresh_of entry) (mem nodes.old slots.old used.old)
         (scratch keys.old payloads.old places.old) }
 {
-    let at = counters::due_at(nodes, path, conflict);
-    if !sound_due(h.capacity, key, path, at, nodes, slots, used) {
-        return refuse(h, Inserted::Damage);
+    let key = entry.key;
+    let at = counters::due_at(nodes, entry.path, entry.other.is_some());
+    if !sound_due(h.capacity, key, entry.path, at, nodes, slots, used) {
+        return Changing::new(Err(Refusal::Damage), h);
     }
-    let above = slot_above(key, path, at, nodes, slots, used);
-    let held = slots[q * Node::SLOT_WORDS + 1];
-    let Built::At(c) = rebuild::pairs::build_pair(
-        conflict, key, payload, other, held, nodes, slots, used,
+    let above = slot_above(key, entry.path, at, nodes, slots, used);
+    let held = slots[entry.slot * Node::SLOT_WORDS + 1];
+    let Some(c) = rebuild::pairs::build_pair(
+        key,
+        entry.payload,
+        entry.other,
+        held,
+        nodes,
+        slots,
+        used,
     ) else {
-        return refuse(h, Inserted::NoRoom);
+        return Changing::new(Err(Refusal::NoRoom), h);
     };
     tidy(
-        h, key, payload, q, conflict, other, path, at, above, c, nodes, slots, used, keys,
-        payloads, places,
+        h, entry, at, above, c, nodes, slots, used, keys, payloads, places,
     )
 }
 
@@ -337,7 +296,7 @@ fn rebuild_whole(
     keys: &mut [u64],
     payloads: &mut [u64],
     places: &mut [u64],
-) -> Inserting
+) -> Changing<Inserted>
     requires { Ready h key (mem nodes.old slots.old used.old) (scratch keys.old payloads.old places.old) }
     ensures { insertion (inserted result.answer) result.handle (mem nodes.new slots.new used.new)
         (scratch keys.new payloads.new places.new)
@@ -345,13 +304,13 @@ fn rebuild_whole(
         (scratch keys.old payloads.old places.old) }
 {
     if !rebuild::is_sound(h.capacity, key, 0, h.root, nodes, slots, used) {
-        return refuse(h, Inserted::Damage);
+        return Changing::new(Err(Refusal::Damage), h);
     }
     match rebuild::rebuild(
         h.capacity, key, payload, 0, h.root, nodes, slots, used, keys, payloads, places,
     ) {
-        Built::At(r) => done(h, r, true, Inserted::WHOLE_TREE),
-        Built::NoRoom => refuse(h, Inserted::NoRoom),
+        Some(r) => done(h, r, true, Tidying::WholeTree),
+        None => Changing::new(Err(Refusal::NoRoom), h),
     }
 }
 
@@ -366,47 +325,57 @@ pub fn insert(
     keys: &mut [u64],
     payloads: &mut [u64],
     places: &mut [u64],
-) -> Inserting
+) -> Changing<Inserted>
     ensures { insertion (inserted result.answer) result.handle (mem nodes.new slots.new used.new)
         (scratch keys.new payloads.new places.new)
         ≡ insert_of h key payload (mem nodes.old slots.old used.old)
         (scratch keys.old payloads.old places.old) }
 {
     if !h.fits(nodes, slots, used) {
-        return refuse(h, Inserted::WrongSizes);
+        return Changing::new(Err(Refusal::WrongSizes), h);
     }
     if !scratch_fits(h.capacity, keys, payloads, places) {
-        return refuse(h, Inserted::WrongSizes);
+        return Changing::new(Err(Refusal::WrongSizes), h);
     }
     if Key::BOUND <= key {
-        return refuse(h, Inserted::OutOfRange);
+        return Changing::new(Err(Refusal::OutOfRange), h);
     }
     let t = walk::trace(nodes, slots, used, h.root, key);
     let path = t.path;
     let end = t.end;
     match end {
-        End::Damage(_rule) => refuse(h, Inserted::Damage),
+        End::Damage(_rule) => Changing::new(Err(Refusal::Damage), h),
         End::Empty(q) => {
             if h.capacity <= h.count {
-                return refuse(h, Inserted::Full);
+                return Changing::new(Err(Refusal::Full), h);
             }
-            settle(
-                h, key, payload, q, false, 0, path, nodes, slots, used, keys, payloads, places,
-            )
+            let entry = Entry {
+                key,
+                payload,
+                path,
+                slot: q,
+                other: None,
+            };
+            settle(h, entry, nodes, slots, used, keys, payloads, places)
         }
         End::Key(q, k) => {
             if k == key {
-                return refuse(h, Inserted::Held);
+                return Changing::new(Err(Refusal::Held), h);
             }
             if h.capacity <= h.count {
-                return refuse(h, Inserted::Full);
+                return Changing::new(Err(Refusal::Full), h);
             }
             if Path::LONGEST <= path.len {
                 return rebuild_whole(h, key, payload, nodes, slots, used, keys, payloads, places);
             }
-            settle(
-                h, key, payload, q, true, k, path, nodes, slots, used, keys, payloads, places,
-            )
+            let entry = Entry {
+                key,
+                payload,
+                path,
+                slot: q,
+                other: Some(k),
+            };
+            settle(h, entry, nodes, slots, used, keys, payloads, places)
         }
     }
 }

@@ -1,5 +1,5 @@
 // The two-key node of a conflict.
-ghost use Rattle.std.specs.Prelude.{◌≡◌, [], ◌∷◌, ◌<◌};
+ghost use Rattle.std.specs.Prelude.{◌≡◌, [], ◌∷◌, ◌<◌, is_some, unwrap_or};
 ghost use Rattle.build.specs.Building.{out, build};
 ghost use Rattle.laws.specs.Keys.{key_bound};
 ghost use Rattle.pool.specs.Memory.{mem};
@@ -34,23 +34,22 @@ fn build_two(
 
 // The node over a key and another, after a conflict; without one nothing is stored.
 pub fn build_pair(
-    conflict: bool,
     a: u64,
     p: u64,
-    b: u64,
+    other: Option<u64>,
     q: u64,
     nodes: &mut [u64],
     slots: &mut [u64],
     used: &mut [u64],
 ) -> Option<usize>
     requires pooled { Pooled (mem nodes.old slots.old used.old) }
-    requires pair_fits { PairFits conflict a b }
+    requires pair_fits { PairFits (is_some other) a (unwrap_or other 0) }
     ensures { out result (mem nodes.new slots.new used.new)
-        ≡ pair_if conflict a p b q (mem nodes.old slots.old used.old) }
+        ≡ pair_if (is_some other) a p (unwrap_or other 0) q (mem nodes.old slots.old used.old) }
 {
-    if !conflict {
+    let Some(b) = other else {
         return Some(0);
-    }
+    };
     if a < b {
         return build_two(a, p, b, q, nodes, slots, used);
     }

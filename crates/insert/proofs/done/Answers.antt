@@ -2,4 +2,4 @@
 use Rattle.insert.proofs.done.Goals as goal
 
 pub returns : goal.returns
-returns c = rw (c.as_number-c.ensures, c.one_more-handle.ensures)
+returns c = rw (c.new.ensures, c.one_more.ensures)

@@ -11,7 +11,7 @@ pub raise-requires : goal.raise-requires
 raise-requires c = record { n_le_len = c.requires.stores.within; on_path = on_path_stays _ _ _ (let e = c.drop_pair.auto.nodes in rw e) c.requires.stores.on }
 
 pub returns-then-at-lt1 : goal.returns-then-at-lt1
-returns-then-at-lt1 c = replaced-root _ _ _ _ _ _ c.args.path _ _ _ _ _ _ _ _ _ _ _ c.requires.stores.within c.drop_pair.ensures c.hang.ensures c.raise.ensures c.if-at-lt1.true c.done.ensures
+returns-then-at-lt1 c = rw (← c.is_some-conflict.ensures) (replaced-root _ _ _ _ _ _ c.args.entry.path _ _ _ _ _ _ _ _ _ _ _ c.requires.stores.within c.drop_pair.ensures c.hang.ensures c.raise.ensures c.if-at-lt1.true c.done.ensures)
 
 pub returns : goal.returns
-returns c = replaced-below _ _ _ _ _ _ c.args.path _ _ _ _ _ _ _ _ _ _ _ c.requires.stores.within c.drop_pair.ensures c.hang.ensures c.raise.ensures c.if-at-lt1.false c.done-2.ensures
+returns c = rw (← c.is_some-conflict.ensures) (replaced-below _ _ _ _ _ _ c.args.entry.path _ _ _ _ _ _ _ _ _ _ _ c.requires.stores.within c.drop_pair.ensures c.hang.ensures c.raise.ensures c.if-at-lt1.false c.done-2.ensures)

@@ -9,7 +9,7 @@ use Rattle.insert.proofs.Tidies.{settle-damage, settle-roomless, still_sound, se
 use Rattle.insert.proofs.settle.Goals as goal
 
 pub returns-then-not-sound_due : goal.returns-then-not-sound_due
-returns-then-not-sound_due c = settle-damage _ _ _ _ _ _ _ _ _ _ c.due_at-at.ensures _ c.refuse.ensures (sym c.sound_due.ensures ∙ c.if-not-sound_due.true)
+returns-then-not-sound_due c = settle-damage _ _ _ _ _ _ _ _ _ _ (rw c.is_some.ensures at c.due_at-at.ensures) _ c.new.ensures (sym c.sound_due.ensures ∙ c.if-not-sound_due.true)
 
 pub slot_above-above-requires : goal.slot_above-above-requires
 slot_above-above-requires c =
@@ -18,7 +18,7 @@ slot_above-above-requires c =
 pub returns-in_default : goal.returns-in_default
 returns-in_default c =
     let e : c.build_pair.result ≡ None = cc in
-    settle-roomless _ _ _ _ _ _ _ _ _ _ c.due_at-at.ensures (sym c.sound_due.ensures ∙ c.if-not-sound_due.false) _ c.slot_above-above.ensures _ _ c.build_pair.ensures _ c.refuse-in_default.ensures c.requires.ends.pair e
+    settle-roomless _ _ _ _ _ _ _ _ _ _ (rw c.is_some.ensures at c.due_at-at.ensures) (sym c.sound_due.ensures ∙ c.if-not-sound_due.false) _ c.slot_above-above.ensures _ _ c.build_pair.ensures _ c.new-in_default.ensures c.requires.ends.pair e
 
 pub tidy-requires : goal.tidy-requires
 tidy-requires c =
@@ -40,8 +40,8 @@ tidy-requires c =
       };
       stores = record {
         slot = omega (arith, d.slot, w);
-        pair = pair_small _ _ _ _ _ _ _ _ c.build_pair.ensures _ c.in-At.is y.pools;
-        above-slot = λ e. omega (arith, c.slot_above-above.ensures, above_within _ d.sized _ d.good c.args.key c.due_at-at.result e (rw a (due_among _ _ _ _)), w);
+        pair = pair_small _ _ _ _ _ _ _ _ c.build_pair.ensures _ c.in-Some.is y.pools;
+        above-slot = λ e. omega (arith, c.slot_above-above.ensures, above_within _ d.sized _ d.good c.args.entry.key c.due_at-at.result e (rw a (due_among _ _ _ _)), w);
         sized = d.sized;
         on = on_path_stays _ _ _ (rw n) d.on;
         within = rw a (due_among _ _ _ _);
@@ -51,4 +51,4 @@ tidy-requires c =
 
 pub returns : goal.returns
 returns c =
-    settle-tidy _ _ _ _ _ _ _ _ _ _ c.due_at-at.ensures (sym c.sound_due.ensures ∙ c.if-not-sound_due.false) _ c.slot_above-above.ensures _ _ c.build_pair.ensures _ _ c.in-At.is c.tidy.ensures
+    settle-tidy _ _ _ _ _ _ _ _ _ _ (rw c.is_some.ensures at c.due_at-at.ensures) (sym c.sound_due.ensures ∙ c.if-not-sound_due.false) _ c.slot_above-above.ensures _ _ c.build_pair.ensures _ _ c.in-Some.is c.tidy.ensures

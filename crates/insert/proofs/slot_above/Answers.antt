@@ -13,13 +13,13 @@ returns-in_default c =
 
 pub slot_of-requires : goal.slot_of-requires
 slot_of-requires c =
-    record { in_range = (above-node _ c.requires.sized.0 _ c.requires.good_path 0 _ c.if-at-lt1.false c.requires.sized.1 _ (sym c.in-Good.ensures)).range; x_lt_value_bound = c.requires.key_lt_key_bound }
+    record { in_range = (above-node _ c.requires.sized.0 _ c.requires.good_path 0 _ c.if-at-lt1.false c.requires.sized.1 _ (sym c.in-Ok.ensures)).range; x_lt_value_bound = c.requires.key_lt_key_bound }
 
 pub overflow_add-result : goal.overflow_add-result
 overflow_add-result c =
-    let g = above-node _ c.requires.sized.0 _ c.requires.good_path 0 _ c.if-at-lt1.false c.requires.sized.1 _ (sym c.in-Good.ensures) in
+    let g = above-node _ c.requires.sized.0 _ c.requires.good_path 0 _ c.if-at-lt1.false c.requires.sized.1 _ (sym c.in-Ok.ensures) in
     omega (arith, g.fits, c.slot_of.ensures.1)
 
 pub returns : goal.returns
 returns c =
-    above-slot _ c.requires.sized.0 _ c.requires.good_path _ _ c.if-at-lt1.false c.requires.sized.1 _ (sym c.in-Good.ensures) _ c.slot_of.ensures.0
+    above-slot _ c.requires.sized.0 _ c.requires.good_path _ _ c.if-at-lt1.false c.requires.sized.1 _ (sym c.in-Ok.ensures) _ c.slot_of.ensures.0
