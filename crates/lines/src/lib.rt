@@ -1,10 +1,10 @@
 // What the session program reads and prints (document 01, "The session program"): kinds and numbers in bytes, decimals and lines.
 #![tactic(auto)]
 
-ghost use Rattle.std.specs.Prelude.{◌≡◌, [], ◌∷◌, ◌+◌, ◌^◌, ◌<◌, ◌≤◌, length, drop};
+ghost use Rattle.std.specs.Prelude.{◌≡◌, [], ◌∷◌, ◌+◌, ◌<◌, ◌≤◌, length, drop};
 ghost use Rattle.laws.specs.Bytes.{little_endian};
 ghost use Rattle.lines.specs.Kinds.{payload_bytes, kind_of};
-ghost use Rattle.lines.specs.Lines.{digit, space, newline, decimal, spaced, line, longest_line, longest_number, text, write};
+ghost use Rattle.lines.specs.Lines.{digit, decimal, spaced, line, longest_line, longest_number, text, write};
 
 use laws::Key;
 
