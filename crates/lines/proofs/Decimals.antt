@@ -7,7 +7,7 @@ use lib.ListN.{length, length-append}
 use borrow.Author.Tests.{lt-ltb, le-ltb}
 use mathlib.Core.Logic.{⊎_elim}
 use Rattle.laws.proofs.Tests.{le_or_lt}
-use Rattle.lines.specs.Lines.{digit, digits, decimal, spaced, longest_number}
+use Rattle.lines.specs.Lines.{digit, digits, decimal}
 
 digits-below : (f n : ℕ) → n < 10 → digits (suc f) n ≡ digit n ∷ []
 unfolding digits
@@ -38,6 +38,13 @@ unfolding decimal
 decimal-above n h =
     digits_above n n h ∙ ap (λ (l : List ℕ). l ++ (digit (n % 10) ∷ [])) (enough n (suc (n / 10)) (n / 10) (omega arith) (omega arith))
 
+-- one digit, and one digit more
+pub decimal_one : (n : ℕ) → n < 10 → length (decimal n) ≡ 1
+decimal_one n h = rw (decimal-below n h)
+
+pub decimal_longer : (n : ℕ) → 10 ≤ n → length (decimal n) ≡ length (decimal (n / 10)) + 1
+decimal_longer n h = rw (decimal-above n h, length-append (decimal (n / 10)) (digit (n % 10) ∷ []))
+
 -- a number below 10 to the k has at most k digits
 pub decimal-length : (k n : ℕ) → n < 10 ^ suc k → length (decimal n) ≤ suc k
 decimal-length zero n h = rw (decimal-below n (omega arith)) (omega arith)
@@ -49,10 +56,9 @@ decimal-length (suc k) n h =
     (λ (b : n < 10). rw (decimal-below n b) (omega arith))
     (le_or_lt 10 n)
 
--- a number of 64 bits with a space before it
-pub spaced-length : (n : ℕ) → n < 2 ^ 64 → length (spaced n) ≤ longest_number
-unfolding spaced
-spaced-length n h = let e : length (decimal n) ≤ 20 = decimal-length 19 n (omega arith) in omega arith
+-- a number of 64 bits
+pub decimal_fits : (n : ℕ) → n < 2 ^ 64 → length (decimal n) ≤ 20
+decimal_fits n h = decimal-length 19 n (omega arith)
 
 -- the number that digits say, after v
 abbrev said : ℕ → List ℕ → ℕ

@@ -2,10 +2,10 @@
 use mathlib.Core.List.{List, [], ◌∷◌, ◌++◌}
 use mathlib.Core.Path.{◌≡◌, refl, ap, ◌∙◌}
 use Prim.Native.Nat.{ℕ, ◌/◌, ◌%◌, ◌≤◌}
+use Rattle.std.proofs.Common.{Some, None}
 use lib.Dec.{lit<, lit≤}
-use Rattle.lines.specs.Kinds.{kind_of}
+use Rattle.lines.specs.Kinds.{kind, kind_of}
 use Rattle.lines.specs.Lines.{digit, digits, decimal, spaced, numbers, line}
-use Rattle.lines.specs.declared.Kind.TheVariants.{Known, Unknown}
 use Rattle.lines.specs.declared.Operation.TheVariants.{Insert, Delete, Lookup, Band, Replace}
 use Rattle.lines.proofs.Decimals.{decimal-below, decimal-above}
 
@@ -25,13 +25,13 @@ greatest =
     one_more 18446744073709551615 (lit≤ tt) (one_more 1844674407370955161 (lit≤ tt) (one_more 184467440737095516 (lit≤ tt) (one_more 18446744073709551 (lit≤ tt) (one_more 1844674407370955 (lit≤ tt) (one_more 184467440737095 (lit≤ tt) (one_more 18446744073709 (lit≤ tt) (one_more 1844674407370 (lit≤ tt) (one_more 184467440737 (lit≤ tt) (one_more 18446744073 (lit≤ tt) (one_more 1844674407 (lit≤ tt) (one_more 184467440 (lit≤ tt) (one_more 18446744 (lit≤ tt) (one_more 1844674 (lit≤ tt) (one_more 184467 (lit≤ tt) (one_more 18446 (lit≤ tt) (one_more 1844 (lit≤ tt) (one_more 184 (lit≤ tt) (one_more 18 (lit≤ tt) (decimal-below 1 (lit< tt))))))))))))))))))))
 
 -- no kind below 1 and above 5
-kinds : (kind_of 0 ≡ Unknown)
-    × (kind_of 1 ≡ Known 14 Insert)
-    × (kind_of 2 ≡ Known 6 Delete)
-    × (kind_of 3 ≡ Known 6 Lookup)
-    × (kind_of 4 ≡ Known 12 Band)
-    × (kind_of 5 ≡ Known 14 Replace)
-    × (kind_of 6 ≡ Unknown)
-    × (kind_of 255 ≡ Unknown)
+kinds : (kind_of 0 ≡ None)
+    × (kind_of 1 ≡ Some (kind 14 Insert))
+    × (kind_of 2 ≡ Some (kind 6 Delete))
+    × (kind_of 3 ≡ Some (kind 6 Lookup))
+    × (kind_of 4 ≡ Some (kind 12 Band))
+    × (kind_of 5 ≡ Some (kind 14 Replace))
+    × (kind_of 6 ≡ None)
+    × (kind_of 255 ≡ None)
 unfolding kind_of
 kinds = (refl, refl, refl, refl, refl, refl, refl, refl)

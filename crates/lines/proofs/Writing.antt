@@ -30,3 +30,7 @@ written_length t u l e = ap (λ (u : Text). length u.bytes) e ∙ length-sets t.
 -- one write after another
 pub then_write : (t u v : Text) (a b : List ℕ) → u ≡ write t a → v ≡ write u b → v ≡ write t (a ++ b)
 then_write t u v a b d e = e ∙ ap (λ (x : Text). write x b) d ∙ write-more t a b
+
+-- the rest of a text after its first part
+pub write_first : (t u : Text) (a b : List ℕ) → u ≡ write t a → write u b ≡ write t (a ++ b)
+write_first t u a b e = ap (λ (x : Text). write x b) e ∙ write-more t a b

@@ -1,14 +1,14 @@
 // What the session program reads and prints (document 01, "The session program"): kinds and numbers in bytes, decimals and lines.
 #![tactic(auto)]
 
-ghost use Rattle.std.specs.Prelude.{◌≡◌, [], ◌∷◌, ◌+◌, ◌^◌, ◌<◌, ◌≤◌, length, drop};
+ghost use Rattle.std.specs.Prelude.{◌≡◌, [], ◌∷◌, ◌+◌, ◌<◌, ◌≤◌, length, drop};
 ghost use Rattle.laws.specs.Bytes.{little_endian};
 ghost use Rattle.lines.specs.Kinds.{payload_bytes, kind_of};
-ghost use Rattle.lines.specs.Lines.{digit, space, newline, decimal, spaced, line, longest_line, longest_number, text, write};
+ghost use Rattle.lines.specs.Lines.{digit, decimal, spaced, line, longest_line, longest_number, text, write};
 
 use laws::Key;
 
-#[derive(Clone, Copy)]
+#[derive(Clone, Copy, Debug, PartialEq, Eq)]
 pub enum Operation {
     Insert,
     Delete,
@@ -17,11 +17,11 @@ pub enum Operation {
     Replace,
 }
 
-// What a kind byte says: the length of the body and the operation, or nothing known.
-#[derive(Clone, Copy)]
-pub enum Kind {
-    Known(usize, Operation),
-    Unknown,
+// What a kind byte says: the length of the body, and the operation.
+#[derive(Clone, Copy, Debug, PartialEq, Eq)]
+pub struct Kind {
+    pub length: usize,
+    pub operation: Operation,
 }
 
 impl Kind {
@@ -33,42 +33,19 @@ impl Kind {
     {}
 }
 
-pub fn kind_of(byte: u8) -> Kind
+#[tactic(auto, unfolding(crate::specs::Kinds::kind_of))]
+pub fn kind_of(byte: u8) -> Option<Kind>
     ensures { result ≡ kind_of byte }
 {
-    match byte {
-        1 => Kind::Known(Key::BYTES + Kind::PAYLOAD_BYTES, Operation::Insert),
-        2 => Kind::Known(Key::BYTES, Operation::Delete),
-        3 => Kind::Known(Key::BYTES, Operation::Lookup),
-        4 => Kind::Known(Key::BYTES + Key::BYTES, Operation::Band),
-        5 => Kind::Known(Key::BYTES + Kind::PAYLOAD_BYTES, Operation::Replace),
-        0 | 6..=255 => Kind::Unknown,
-    }
-}
-
-fn wide(b: u8) -> u64
-    ensures { (result ≡ b) × (result < 256) }
-{
-    b as u64
-}
-
-// Two bytes from p on, lowest first.
-fn two(bytes: &[u8], p: usize) -> u64
-    requires { p + 2 ≤ length bytes.now }
-    ensures { (result ≡ little_endian 2 (drop p bytes.now)) × (result < 65536) }
-{
-    let a = wide(bytes[p]);
-    let b = wide(bytes[p + 1]);
-    a + 256 * b
-}
-
-fn four(bytes: &[u8], p: usize) -> u64
-    requires { p + 4 ≤ length bytes.now }
-    ensures { (result ≡ little_endian 4 (drop p bytes.now)) × (result < 4294967296) }
-{
-    let low = two(bytes, p);
-    let high = two(bytes, p + 2);
-    low + 65536 * high
+    let (length, operation) = match byte {
+        1 => (Key::BYTES + Kind::PAYLOAD_BYTES, Operation::Insert),
+        2 => (Key::BYTES, Operation::Delete),
+        3 => (Key::BYTES, Operation::Lookup),
+        4 => (Key::BYTES + Key::BYTES, Operation::Band),
+        5 => (Key::BYTES + Kind::PAYLOAD_BYTES, Operation::Replace),
+        0 | 6..=255 => return None,
+    };
+    Some(Kind { length, operation })
 }
 
 // The key in the 6 bytes from p on.
@@ -76,9 +53,7 @@ pub fn key_at(bytes: &[u8], p: usize) -> u64
     requires { p + 6 ≤ length bytes.now }
     ensures { result ≡ little_endian 6 (drop p bytes.now) }
 {
-    let low = four(bytes, p);
-    let high = two(bytes, p + 4);
-    low + 4294967296 * high
+    laws::little_endian::<{ Key::BYTES }>(bytes, p)
 }
 
 // The payload in the 8 bytes from p on.
@@ -86,11 +61,10 @@ pub fn payload_at(bytes: &[u8], p: usize) -> u64
     requires { p + 8 ≤ length bytes.now }
     ensures { result ≡ little_endian 8 (drop p bytes.now) }
 {
-    let low = four(bytes, p);
-    let high = four(bytes, p + 4);
-    low + 4294967296 * high
+    laws::little_endian::<{ Kind::PAYLOAD_BYTES }>(bytes, p)
 }
 
+#[tactic(auto, unfolding(crate::specs::Lines::write))]
 fn put(b: u8, out: &mut [u8], at: usize) -> usize
     requires { at + 1 ≤ length out.old }
     ensures result_after { text out.new result ≡ write (text out.old at) (b ∷ []) }
@@ -108,7 +82,9 @@ fn put_digit(d: u64, out: &mut [u8], at: usize) -> usize
     put(48 + d as u8, out, at)
 }
 
-// The digits of a number, the most significant first.
+// The digits of a number, the most significant first. std's printing doesn't serve without a heap: of `write!` to a slice it doesn't
+// say which bytes are written, and of its fixed text only that it is the number's or ends in dots.
+#[tactic(auto, using(crate::proofs::Decimals::decimal_one, crate::proofs::Decimals::decimal_longer))]
 fn put_decimal(n: u64, out: &mut [u8], at: usize) -> usize
     requires { at + length (decimal n) ≤ length out.old }
     ensures result_after { text out.new result ≡ write (text out.old at) (decimal n) }
@@ -121,6 +97,7 @@ fn put_decimal(n: u64, out: &mut [u8], at: usize) -> usize
     put_digit(n % 10, out, end)
 }
 
+#[tactic(auto, using(crate::proofs::Decimals::decimal_fits))]
 fn put_spaced(n: u64, out: &mut [u8], at: usize) -> usize
     requires { at + longest_number ≤ length out.old }
     ensures result_after { text out.new result ≡ write (text out.old at) (spaced n) }
@@ -130,36 +107,16 @@ fn put_spaced(n: u64, out: &mut [u8], at: usize) -> usize
     put_decimal(n, out, next)
 }
 
-// A line of one number after its first byte.
-pub fn line_of_one(head: u8, a: u64, out: &mut [u8], at: usize) -> usize
-    requires { at + longest_line ≤ length out.old }
-    ensures result_after { text out.new result ≡ write (text out.old at) (line head (a ∷ [])) }
+// A line: its first byte, and then the numbers.
+pub fn line(head: u8, numbers: &[u64], out: &mut [u8], at: usize) -> usize
+    requires few { length numbers.now ≤ 3 }
+    requires room { at + longest_line ≤ length out.old }
+    ensures result_after { text out.new result ≡ write (text out.old at) (line head numbers.now) }
     ensures upper_bound { (result ≤ at + longest_line) × (length out.new ≡ length out.old) }
 {
-    let first = put(head, out, at);
-    let end = put_spaced(a, out, first);
-    put(b'\n', out, end)
-}
-
-pub fn line_of_two(head: u8, a: u64, b: u64, out: &mut [u8], at: usize) -> usize
-    requires { at + longest_line ≤ length out.old }
-    ensures result_after { text out.new result ≡ write (text out.old at) (line head (a ∷ b ∷ [])) }
-    ensures upper_bound { (result ≤ at + longest_line) × (length out.new ≡ length out.old) }
-{
-    let first = put(head, out, at);
-    let second = put_spaced(a, out, first);
-    let end = put_spaced(b, out, second);
-    put(b'\n', out, end)
-}
-
-pub fn line_of_three(head: u8, a: u64, b: u64, c: u64, out: &mut [u8], at: usize) -> usize
-    requires { at + longest_line ≤ length out.old }
-    ensures result_after { text out.new result ≡ write (text out.old at) (line head (a ∷ b ∷ c ∷ [])) }
-    ensures upper_bound { (result ≤ at + longest_line) × (length out.new ≡ length out.old) }
-{
-    let first = put(head, out, at);
-    let second = put_spaced(a, out, first);
-    let third = put_spaced(b, out, second);
-    let end = put_spaced(c, out, third);
+    let mut end = put(head, out, at);
+    for n in numbers {
+        end = put_spaced(*n, out, end);
+    }
     put(b'\n', out, end)
 }

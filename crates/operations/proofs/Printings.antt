@@ -2,34 +2,23 @@
 -- Assumes nothing.
 use mathlib.Core.Bool.{Bool, true}
 use mathlib.Core.List.{List, [], ◌++◌, append_assoc, append-nil}
-use mathlib.Core.Path.{◌≡◌, refl, sym, ap, ◌∙◌}
+use mathlib.Core.Path.{◌≡◌, sym, ap, ◌∙◌}
+use Rattle.std.proofs.Common.{Some, None}
 use Prim.Native.Nat.{ℕ, ◌+◌, ◌-◌, ◌<◌, ◌≤◌}
 use native.Mathlib.Omega.{arith}
-use denote.Enum.Declared.{tag_of}
 use lib.ListN.{length, get_or, take, drop, length-drop}
 use lib.Seq.{length-take-le}
 use Rattle.lines.specs.Kinds.{kind_of, body_length, longest_body}
 use Rattle.lines.specs.Lines.{text, write}
 use Rattle.lines.specs.declared.Kind.{Kind}
-use Rattle.lines.specs.declared.Kind.TheVariants.{Known, Unknown}
 use Rattle.lines.specs.declared.Operation.{Operation}
 use Rattle.lines.specs.declared.Operation.TheVariants.{Insert, Delete, Lookup, Band, Replace}
-use Rattle.lines.specs.contracts.Kind.{the_type}
 use Rattle.lines.proofs.KindBytes.{known-length}
 use Rattle.lines.proofs.Writing.{written_at}
 use Rattle.operations.specs.Printing.{end_line}
 use Rattle.operations.specs.Sessions.{session}
 use Rattle.operations.specs.Stepping.{State, step_of}
 use Rattle.operations.proofs.Sessions.{block_unknown, block_short, block_next, printed-more}
-
-pub unknown-told : (k : Kind) → tag_of the_type k ≡ 1 → k ≡ Unknown
-unknown-told (Known n o) e = absurd (omega arith)
-unknown-told Unknown e = refl
-
--- and a kind that is not a known one, as an arm after the known ones says it
-pub unknown-left : (k : Kind) → ((n : ℕ) (o : Operation) → k ≡ Known n o → ⊥) → k ≡ Unknown
-unknown-left (Known n o) h = absurd (h n o refl)
-unknown-left Unknown h = refl
 
 longest : (o : Operation) → body_length o ≤ longest_body
 longest Insert = omega arith
@@ -38,8 +27,8 @@ longest Lookup = omega arith
 longest Band = omega arith
 longest Replace = omega arith
 
-pub body_at_most : (b n : ℕ) (o : Operation) → kind_of b ≡ Known n o → n ≤ longest_body
-body_at_most b n o e = let l : body_length o ≤ longest_body = longest o in omega (arith, known-length b n o e, l)
+pub body_at_most : (b : ℕ) (k : Kind) → kind_of b ≡ Some k → k.length ≤ longest_body
+body_at_most b k e = omega (arith, known-length b k e, longest k.operation)
 
 -- after p bytes of the input, at the state s: `at` bytes were printed, and the rest of the session is from there
 abbrev pub Printed : List ℕ → Bool → ℕ → State → ℕ → List ℕ → ℕ → State → Type 0
@@ -58,23 +47,23 @@ module _ (input : List ℕ) (last : Bool) (o : ℕ) (s₀ : State) (at : ℕ) (o
   after : (l : List ℕ) → text out' at' ≡ write (text out at) l → at' ≤ length out → take at' out' ≡ take at out ++ l
   after l e f = printed-more (text out at) (text out' at') l e (omega (arith, written_at (text out at) (text out' at') l e, f))
 
-  pub printed-next : (n : ℕ) (op : Operation) → kind_of (get_or input p 0) ≡ Known n op → n ≤ length input - (p + 1)
-      → (body : List ℕ) → body ≡ take n (drop (p + 1) input)
-      → (s' : State) → s' ≡ (step_of op body s).next → text out' at' ≡ write (text out at) (step_of op body s).lines → at' ≤ length out
-      → Printed input last o s₀ at' out' (p + 1 + n) s'
-  printed-next n op e f body b s' es et g more q =
-      h more q ∙ ap (λ (l : List ℕ). take at out ++ l) (block_next input more p lt o s n op e f)
-      ∙ sym (append_assoc (take at out) (step_of op (take n (drop (p + 1) input)) s).lines _)
-      ∙ rw (after (step_of op body s).lines et g, es, b)
+  pub printed-next : (k : Kind) → kind_of (get_or input p 0) ≡ Some k → k.length ≤ length input - (p + 1)
+      → (body : List ℕ) → body ≡ take k.length (drop (p + 1) input)
+      → (s' : State) → s' ≡ (step_of k.operation body s).next → text out' at' ≡ write (text out at) (step_of k.operation body s).lines → at' ≤ length out
+      → Printed input last o s₀ at' out' (p + 1 + k.length) s'
+  printed-next k e f body b s' es et g more q =
+      h more q ∙ ap (λ (l : List ℕ). take at out ++ l) (block_next input more p lt o s k e f)
+      ∙ sym (append_assoc (take at out) (step_of k.operation (take k.length (drop (p + 1) input)) s).lines _)
+      ∙ rw (after (step_of k.operation body s).lines et g, es, b)
 
-  pub printed-unknown : kind_of (get_or input p 0) ≡ Unknown → text out' at' ≡ write (text out at) (end_line (o + p)) → at' ≤ length out → AllPrinted input last o s₀ at' out'
+  pub printed-unknown : kind_of (get_or input p 0) ≡ None → text out' at' ≡ write (text out at) (end_line (o + p)) → at' ≤ length out → AllPrinted input last o s₀ at' out'
   printed-unknown e et g more q =
       h more q ∙ ap (λ (l : List ℕ). take at out ++ l) (block_unknown input more p lt o s e) ∙ sym (after (end_line (o + p)) et g) ∙ sym (append-nil (take at' out'))
 
-  pub printed-short : (n : ℕ) (op : Operation) → kind_of (get_or input p 0) ≡ Known n op → length input - (p + 1) < n → last ≡ true
+  pub printed-short : (k : Kind) → kind_of (get_or input p 0) ≡ Some k → length input - (p + 1) < k.length → last ≡ true
       → text out' at' ≡ write (text out at) (end_line (o + p)) → at' ≤ length out → AllPrinted input last o s₀ at' out'
-  printed-short n op e f t et g more q =
-      h more q ∙ ap (λ (l : List ℕ). take at out ++ l) (block_short input more p lt o s n op e f (q t)) ∙ sym (after (end_line (o + p)) et g) ∙ sym (append-nil (take at' out'))
+  printed-short k e f t et g more q =
+      h more q ∙ ap (λ (l : List ℕ). take at out ++ l) (block_short input more p lt o s k e f (q t)) ∙ sym (after (end_line (o + p)) et g) ∙ sym (append-nil (take at' out'))
 
 -- the body of n bytes after the kind byte at place p, as a part of the input
 pub body_is : (input : List ℕ) (p n : ℕ) → take (p + 1 + n - (p + 1)) (drop (p + 1) input) ≡ take n (drop (p + 1) input)

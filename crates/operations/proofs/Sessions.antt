@@ -2,6 +2,7 @@
 -- Assumes nothing.
 use mathlib.Core.List.{List, [], ◌∷◌, ◌++◌}
 use mathlib.Core.Path.{◌≡◌, refl, sym, ap, ◌∙◌}
+use Rattle.std.proofs.Common.{Option, Some, None}
 use Prim.Native.Nat.{ℕ, zero, suc, ◌+◌, ◌-◌, ◌<◌, ◌≤◌}
 use native.Mathlib.Omega.{arith}
 use borrow.Author.Tests.{le-leb, lt-leb}
@@ -10,8 +11,6 @@ use lib.Seq.{sets-eq, drop-cons, drop-drop, take-append-le, drop-append-le, take
 use Rattle.lines.specs.Kinds.{kind_of}
 use Rattle.lines.specs.Lines.{Text, write}
 use Rattle.lines.specs.declared.Kind.{Kind}
-use Rattle.lines.specs.declared.Kind.TheVariants.{Known, Unknown}
-use Rattle.lines.specs.declared.Operation.{Operation}
 use Rattle.operations.specs.Printing.{end_line}
 use Rattle.operations.specs.Sessions.{by_kind, session_from, session}
 use Rattle.operations.specs.Stepping.{State, step_of}
@@ -20,14 +19,12 @@ use Rattle.operations.specs.Stepping.{State, step_of}
 Same : (ℕ → List ℕ → State → List ℕ) → (ℕ → List ℕ → State → List ℕ) → ℕ → Type 0
 Same r q n = (o : ℕ) (bs : List ℕ) (s : State) → length bs ≤ n → r o bs s ≡ q o bs s
 
-by_kind-same : (x : Kind) (r q : ℕ → List ℕ → State → List ℕ) (n o : ℕ) (bs : List ℕ) (s : State) → Same r q n → length bs ≤ n → by_kind x r o bs s ≡ by_kind x q o bs s
+by_kind-same : (x : Option Kind) (r q : ℕ → List ℕ → State → List ℕ) (n o : ℕ) (bs : List ℕ) (s : State) → Same r q n → length bs ≤ n → by_kind x r o bs s ≡ by_kind x q o bs s
 unfolding by_kind Same
-by_kind-same (Known k op) r q n o bs s h l =
-    let e : r (o + 1 + k) (drop k bs) (step_of op (take k bs) s).next ≡ q (o + 1 + k) (drop k bs) (step_of op (take k bs) s).next =
-    h (o + 1 + k) (drop k bs) (step_of op (take k bs) s).next (rw (length-drop k bs) (omega arith))
-    in
+by_kind-same (Some k) r q n o bs s h l =
+    let e = h (o + 1 + k.length) (drop k.length bs) (step_of k.operation (take k.length bs) s).next (rw (length-drop k.length bs) (omega arith)) in
     rw e
-by_kind-same Unknown r q n o bs s h l = refl
+by_kind-same None r q n o bs s h l = refl
 
 enough : (n f g o : ℕ) (bs : List ℕ) (s : State) → length bs ≤ n → n ≤ f → n ≤ g → session_from f o bs s ≡ session_from g o bs s
 unfolding session_from Same
@@ -44,23 +41,24 @@ pub session-none : (o : ℕ) (s : State) → session o [] s ≡ []
 unfolding session session_from
 session-none o s = refl
 
-pub session-unknown : (o k : ℕ) (bs : List ℕ) (s : State) → kind_of k ≡ Unknown → session o (k ∷ bs) s ≡ end_line o
+pub session-unknown : (o b : ℕ) (bs : List ℕ) (s : State) → kind_of b ≡ None → session o (b ∷ bs) s ≡ end_line o
 unfolding session session_from by_kind
-session-unknown o k bs s e = rw e
+session-unknown o b bs s e = rw e
 
-pub session-short : (o k n : ℕ) (op : Operation) (bs : List ℕ) (s : State) → kind_of k ≡ Known n op → length bs < n → session o (k ∷ bs) s ≡ end_line o
+pub session-short : (o b : ℕ) (k : Kind) (bs : List ℕ) (s : State) → kind_of b ≡ Some k → length bs < k.length → session o (b ∷ bs) s ≡ end_line o
 unfolding session session_from by_kind
-session-short o k n op bs s e h = rw (e, lt-leb n (length bs) h)
+session-short o b k bs s e h = rw (e, lt-leb k.length (length bs) h)
 
-pub session-next : (o k n : ℕ) (op : Operation) (bs : List ℕ) (s : State) → kind_of k ≡ Known n op → n ≤ length bs
-    → session o (k ∷ bs) s ≡ (step_of op (take n bs) s).lines ++ session (o + 1 + n) (drop n bs) (step_of op (take n bs) s).next
+pub session-next : (o b : ℕ) (k : Kind) (bs : List ℕ) (s : State) → kind_of b ≡ Some k → k.length ≤ length bs
+    → session o (b ∷ bs) s ≡ (step_of k.operation (take k.length bs) s).lines ++ session (o + 1 + k.length) (drop k.length bs) (step_of k.operation (take k.length bs) s).next
 unfolding session session_from by_kind
-session-next o k n op bs s e h =
-    let d : length (drop n bs) ≤ length bs = rw (length-drop n bs) (omega arith) in
-    let f : session_from (length bs) (o + 1 + n) (drop n bs) (step_of op (take n bs) s).next ≡ session_from (length (drop n bs)) (o + 1 + n) (drop n bs) (step_of op (take n bs) s).next =
-    enough (length (drop n bs)) (length bs) (length (drop n bs)) (o + 1 + n) (drop n bs) (step_of op (take n bs) s).next (omega arith) d (omega arith)
+session-next o b k bs s e h =
+    let d : length (drop k.length bs) ≤ length bs = rw (length-drop k.length bs) (omega arith) in
+    let t = (step_of k.operation (take k.length bs) s).next in
+    let f : session_from (length bs) (o + 1 + k.length) (drop k.length bs) t ≡ session_from (length (drop k.length bs)) (o + 1 + k.length) (drop k.length bs) t =
+    enough (length (drop k.length bs)) (length bs) (length (drop k.length bs)) (o + 1 + k.length) (drop k.length bs) t (omega arith) d (omega arith)
     in
-    rw (e, le-leb n (length bs) h) (ap (λ (l : List ℕ). (step_of op (take n bs) s).lines ++ l) f)
+    rw (e, le-leb k.length (length bs) h) (ap (λ (l : List ℕ). (step_of k.operation (take k.length bs) s).lines ++ l) f)
 
 -- the byte at place p of a block, and what follows it
 at_byte : (input more : List ℕ) (p : ℕ) → p < length input → drop p input ++ more ≡ get_or input p 0 ∷ (drop (p + 1) input ++ more)
@@ -70,23 +68,24 @@ at_byte input more p h =
     ap (λ (l : List ℕ). l ++ more) d
 
 module _ (input more : List ℕ) (p : ℕ) (lt : p < length input) (o : ℕ) (s : State) where
-  pub block_unknown : kind_of (get_or input p 0) ≡ Unknown → session (o + p) (drop p input ++ more) s ≡ end_line (o + p)
+  pub block_unknown : kind_of (get_or input p 0) ≡ None → session (o + p) (drop p input ++ more) s ≡ end_line (o + p)
   block_unknown e = rw (at_byte input more p lt) (session-unknown (o + p) (get_or input p 0) (drop (p + 1) input ++ more) s e)
 
-  pub block_short : (n : ℕ) (op : Operation) → kind_of (get_or input p 0) ≡ Known n op → length input - (p + 1) < n → more ≡ []
+  pub block_short : (k : Kind) → kind_of (get_or input p 0) ≡ Some k → length input - (p + 1) < k.length → more ≡ []
       → session (o + p) (drop p input ++ more) s ≡ end_line (o + p)
-  block_short n op e h z =
-      let l : length (drop (p + 1) input ++ more) < n = rw (z, length-append (drop (p + 1) input) [], length-drop (p + 1) input) (omega arith) in
-      rw (at_byte input more p lt) (session-short (o + p) (get_or input p 0) n op (drop (p + 1) input ++ more) s e l)
+  block_short k e h z =
+      let l : length (drop (p + 1) input ++ more) < k.length = rw (z, length-append (drop (p + 1) input) [], length-drop (p + 1) input) (omega arith) in
+      rw (at_byte input more p lt) (session-short (o + p) (get_or input p 0) k (drop (p + 1) input ++ more) s e l)
 
-  pub block_next : (n : ℕ) (op : Operation) → kind_of (get_or input p 0) ≡ Known n op → n ≤ length input - (p + 1)
+  pub block_next : (k : Kind) → kind_of (get_or input p 0) ≡ Some k → k.length ≤ length input - (p + 1)
       → session (o + p) (drop p input ++ more) s
-      ≡ (step_of op (take n (drop (p + 1) input)) s).lines ++ session (o + (p + 1 + n)) (drop (p + 1 + n) input ++ more) (step_of op (take n (drop (p + 1) input)) s).next
-  block_next n op e h =
-      let d : n ≤ length (drop (p + 1) input) = rw (length-drop (p + 1) input) (omega arith) in
-      let l : n ≤ length (drop (p + 1) input ++ more) = rw (length-append (drop (p + 1) input) more) (omega arith) in
-      let a : o + p + 1 + n ≡ o + (p + 1 + n) = omega arith in
-      rw (at_byte input more p lt, session-next (o + p) (get_or input p 0) n op (drop (p + 1) input ++ more) s e l, take-append-le n (drop (p + 1) input) more d, drop-append-le n (drop (p + 1) input) more d, drop-drop n (p + 1) input, a)
+      ≡ (step_of k.operation (take k.length (drop (p + 1) input)) s).lines
+      ++ session (o + (p + 1 + k.length)) (drop (p + 1 + k.length) input ++ more) (step_of k.operation (take k.length (drop (p + 1) input)) s).next
+  block_next k e h =
+      let d : k.length ≤ length (drop (p + 1) input) = rw (length-drop (p + 1) input) (omega arith) in
+      let l : k.length ≤ length (drop (p + 1) input ++ more) = rw (length-append (drop (p + 1) input) more) (omega arith) in
+      let a : o + p + 1 + k.length ≡ o + (p + 1 + k.length) = omega arith in
+      rw (at_byte input more p lt, session-next (o + p) (get_or input p 0) k (drop (p + 1) input ++ more) s e l, take-append-le k.length (drop (p + 1) input) more d, drop-append-le k.length (drop (p + 1) input) more d, drop-drop k.length (p + 1) input, a)
 
 -- what was printed before, and the lines of one operation
 pub printed-more : (t u : Text) (l : List ℕ) → u ≡ write t l → t.at + length l ≤ length t.bytes → take u.at u.bytes ≡ take t.at t.bytes ++ l

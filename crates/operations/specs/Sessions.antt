@@ -1,12 +1,11 @@
 -- A whole session (document 01, "The session program"): all that is printed for all the bytes of the input, from the state and the
 -- offset at which they are read. "An unknown kind or short body prints 'x' and the offset, from 0, of that kind byte, and ends."
 -- Definitions only.
-use Rattle.std.specs.Prelude.{List, [], ◌∷◌, ◌++◌, ℕ, zero, suc, ◌+◌, ◌*◌, leb, length, replicate, take, drop}
+use Rattle.std.specs.Prelude.{Option, Some, None, List, [], ◌∷◌, ◌++◌, ℕ, zero, suc, ◌+◌, ◌*◌, leb, length, replicate, take, drop}
 use Rattle.laws.specs.Pick.{pick}
 use Rattle.lines.specs.Kinds.{kind_of}
 use Rattle.lines.specs.Lines.{longest_line}
 use Rattle.lines.specs.declared.Kind.{Kind}
-use Rattle.lines.specs.declared.Kind.TheVariants.{Known, Unknown}
 use Rattle.pool.specs.Memory.{mem, record_words, slot_words}
 use Rattle.rebuild.specs.Rebuilding.{scratch}
 use Rattle.store.specs.Handles.{map_words}
@@ -16,10 +15,10 @@ use Rattle.operations.specs.Printing.{end_line}
 use Rattle.operations.specs.Stepping.{State, state, step_of}
 
 -- by what the kind byte at offset o says, with the bytes bs after it: the lines of this operation, then those of what follows it
-unfoldable pub by_kind : Kind → (ℕ → List ℕ → State → List ℕ) → ℕ → List ℕ → State → List ℕ
-by_kind (Known n op) rest o bs s =
-    pick (leb n (length bs)) ((step_of op (take n bs) s).lines ++ rest (o + 1 + n) (drop n bs) (step_of op (take n bs) s).next) (end_line o)
-by_kind Unknown rest o bs s = end_line o
+unfoldable pub by_kind : Option Kind → (ℕ → List ℕ → State → List ℕ) → ℕ → List ℕ → State → List ℕ
+by_kind (Some k) rest o bs s =
+    pick (leb k.length (length bs)) ((step_of k.operation (take k.length bs) s).lines ++ rest (o + 1 + k.length) (drop k.length bs) (step_of k.operation (take k.length bs) s).next) (end_line o)
+by_kind None rest o bs s = end_line o
 
 -- in at most f operations
 unfoldable pub session_from : ℕ → ℕ → List ℕ → State → List ℕ

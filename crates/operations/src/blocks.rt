@@ -7,11 +7,10 @@ ghost use Rattle.operations.specs.Sessions.{longest_list, session};
 ghost use Rattle.operations.specs.Stepping.{state};
 
 use crate::{Next, step};
-use lines::Kind;
 use store::Handle;
 
 // Why a block was left: its operations are used up, what is printed has to be written out first, or the session has ended.
-#[derive(Clone, Copy)]
+#[derive(Clone, Copy, Debug, PartialEq, Eq)]
 pub enum Pause {
     Input,
     Output,
@@ -66,8 +65,8 @@ pub fn run(
                 pause: Pause::Output,
             };
         }
-        let Kind::Known(n, operation) = lines::kind_of(input[p]) else {
-            let end = lines::line_of_one(b'x', offset + p as u64, out, at);
+        let Some(kind) = lines::kind_of(input[p]) else {
+            let end = lines::line(b'x', &[offset + p as u64], out, at);
             return Ran {
                 handle,
                 taken: p,
@@ -76,9 +75,9 @@ pub fn run(
             };
         };
         let start = p + 1;
-        if input.len() - start < n {
+        if input.len() - start < kind.length {
             if last {
-                let end = lines::line_of_one(b'x', offset + p as u64, out, at);
+                let end = lines::line(b'x', &[offset + p as u64], out, at);
                 return Ran {
                     handle,
                     taken: p,
@@ -93,9 +92,9 @@ pub fn run(
                 pause: Pause::Input,
             };
         }
-        let end = start + n;
+        let end = start + kind.length;
         let next = step(
-            operation,
+            kind.operation,
             &input[start..end],
             handle,
             nodes,

@@ -123,10 +123,10 @@ fn insert(
     let answer = i.answer;
     let Inserted::Done(conflict, tidying) = answer else {
         let number = inserted_number(answer);
-        let end = lines::line_of_one(b'1', number, out, at);
+        let end = lines::line(b'1', &[number], out, at);
         return Next { handle, at: end };
     };
-    let end = lines::line_of_three(b'1', 0, conflict as u64, tidying as u64, out, at);
+    let end = lines::line(b'1', &[0, conflict as u64, tidying as u64], out, at);
     Next { handle, at: end }
 }
 
@@ -151,10 +151,10 @@ fn delete(
     let answer = c.answer;
     let Changed::Done = answer else {
         let number = changed_number(answer);
-        let end = lines::line_of_one(b'2', number, out, at);
+        let end = lines::line(b'2', &[number], out, at);
         return Next { handle, at: end };
     };
-    let end = lines::line_of_one(b'2', 0, out, at);
+    let end = lines::line(b'2', &[0], out, at);
     Next { handle, at: end }
 }
 
@@ -180,10 +180,10 @@ fn replace(
     let answer = c.answer;
     let Changed::Done = answer else {
         let number = changed_number(answer);
-        let end = lines::line_of_one(b'5', number, out, at);
+        let end = lines::line(b'5', &[number], out, at);
         return Next { handle, at: end };
     };
-    let end = lines::line_of_one(b'5', 0, out, at);
+    let end = lines::line(b'5', &[0], out, at);
     Next { handle, at: end }
 }
 
@@ -204,9 +204,9 @@ fn lookup(
     let answer = store::lookup(h, key, nodes, slots, used);
     let Looked::Found(payload, visits) = answer else {
         let number = looked_number(answer);
-        return lines::line_of_one(b'3', number, out, at);
+        return lines::line(b'3', &[number], out, at);
     };
-    lines::line_of_three(b'3', 0, payload, visits as u64, out, at)
+    lines::line(b'3', &[0, payload, visits as u64], out, at)
 }
 
 // A line "= key payload" for each of the first n elements.
@@ -217,10 +217,8 @@ fn list_elements(n: usize, keys: &[u64], payloads: &[u64], out: &mut [u8], at: u
     ensures upper_bound { (result ≤ at + longest_line * n) × (length out.new ≡ length out.old) }
 {
     let mut end = at;
-    let mut i = 0;
-    while i < n {
-        end = lines::line_of_two(b'=', keys[i], payloads[i], out, end);
-        i += 1;
+    for (key, payload) in keys[..n].iter().zip(&payloads[..n]) {
+        end = lines::line(b'=', &[*key, *payload], out, end);
     }
     end
 }
@@ -248,9 +246,9 @@ fn band(
     let answer = store::bands::band(h, u, v, nodes, slots, used, keys, payloads);
     let Listed::Done(n, more) = answer else {
         let number = listed_number(answer);
-        return lines::line_of_one(b'4', number, out, at);
+        return lines::line(b'4', &[number], out, at);
     };
-    let first = lines::line_of_three(b'4', 0, n as u64, more as u64, out, at);
+    let first = lines::line(b'4', &[0, n as u64, more as u64], out, at);
     list_elements(n, keys, payloads, out, first)
 }
 

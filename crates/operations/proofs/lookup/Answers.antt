@@ -8,8 +8,8 @@ use Rattle.store.specs.Calls.{looked}
 use Rattle.operations.proofs.lookup.Goals as goal
 
 pub returns-in_default : goal.returns-in_default
-returns-in_default c = record { result_after = refused-text _ _ 3 _ (looked c.lookup-answer.result) _ c.line_of_one.ensures.result_after c.looked_number-number.ensures (looked-not-found c.lookup-answer.result c.in_default.not-Found) c.lookup-answer.ensures; upper_bound = (omega (arith, c.line_of_one.ensures.upper_bound.0), c.line_of_one.ensures.upper_bound.1) }
+returns-in_default c = record { result_after = refused-text _ _ 3 _ (looked c.lookup-answer.result) _ c.line.ensures.result_after c.looked_number-number.ensures (looked-not-found c.lookup-answer.result c.in_default.not-Found) c.lookup-answer.ensures; upper_bound = (omega (arith, c.line.ensures.upper_bound.0), c.line.ensures.upper_bound.1) }
 
 pub returns : goal.returns
 unfolding looked
-returns c = record { result_after = done-text _ _ 3 (_ ∷ _ ∷ []) (looked c.lookup-answer.result) _ c.line_of_three.ensures.result_after (ap looked c.in-Found.is) c.lookup-answer.ensures; upper_bound = c.line_of_three.ensures.upper_bound }
+returns c = record { result_after = done-text _ _ 3 (_ ∷ _ ∷ []) (looked c.lookup-answer.result) _ c.line-2.ensures.result_after (ap looked c.in-Found.is) c.lookup-answer.ensures; upper_bound = c.line-2.ensures.upper_bound }
