@@ -132,15 +132,14 @@ pub fn model_of<K: Keys>(keys: K) -> Choice
             t: 0,
         };
     }
-    let mut t: u16 = 1;
-    loop {
-        let m = model_at(keys, t as usize);
-        if is_spread(keys, m, t) {
+    for t in 1..=(n - 1) / 2 {
+        let m = model_at(keys, t);
+        if is_spread(keys, m, t as u16) {
             return Choice {
                 model: m,
                 t: t as u64,
             };
         }
-        t += 1;
     }
+    unreachable!()
 }
