@@ -1,11 +1,13 @@
 -- Keys in bytes: which bytes the i-th key is made of, that it is a key, how many there are, and that a key written in its bytes
 -- reads back. Assumes nothing.
-use mathlib.Core.List.{List, [], ◌++◌}
+use mathlib.Core.List.{List, [], ◌∷◌, ◌++◌}
 use mathlib.Core.Path.{◌≡◌, refl, ap, ◌∙◌}
 use Prim.Native.Nat.{ℕ, zero, suc, ◌+◌, ◌*◌, ◌/◌, ◌^◌, ◌<◌, ◌≤◌}
 use native.Mathlib.Omega.{arith}
-use lib.ListN.{length, get_or, drop, drop_of_length-le, get_or-eq_default}
+use lib.ListN.{length, get_or, take, drop, length-drop, drop_of_length-le, get_or-eq_default}
 use lib.Seq.{drop-cons, drop-drop}
+use Rattle.std.proofs.Common.{replicate}
+use Rattle.std.specs.Int.{from_le_bytes, w64}
 use Rattle.laws.proofs.Tests.{le_or_lt}
 use mathlib.Core.Logic.{◌⊎◌, inl, inr}
 use Rattle.laws.specs.Bytes.{little_endian, low_bytes, key_bytes, bytes_of, keys_of, keys_in}
@@ -46,6 +48,31 @@ six_bytes p bs =
     let e4 = rw a5 at (little_more 1 (p + 4) bs) in
     let e5 = little_more 0 (p + 5) bs in
     rw (e0, e1, e2, e3, e4, e5) (omega arith)
+
+zeros_say : (m : ℕ) → little_endian m (replicate m 0) ≡ 0
+unfolding little_endian
+zeros_say zero = refl
+zeros_say (suc m) = rw (zeros_say m)
+
+-- zeros after n bytes add nothing
+padded : (n m : ℕ) (bs : List ℕ) → n ≤ m → n ≤ length bs → little_endian m (take n bs ++ drop n (replicate m 0)) ≡ little_endian n bs
+unfolding little_endian
+padded zero m bs h k = zeros_say m
+padded (suc n) zero bs h k = absurd (omega arith)
+padded (suc n) (suc m) [] h k = absurd (omega arith)
+padded (suc n) (suc m) (b ∷ bs) h k = rw (padded n m bs (omega arith) (omega arith))
+
+eight_bytes : (bs : List ℕ) → from_le_bytes w64 bs ≡ little_endian 8 bs
+unfolding little_endian
+eight_bytes bs =
+    rw (little_more 7 0 bs, little_more 6 1 bs, little_more 5 2 bs, little_more 4 3 bs, little_more 3 4 bs, little_more 2 5 bs, little_more 1 6 bs, little_more 0 7 bs) (omega arith)
+
+-- n bytes with zeros after them, 8 in all, read at once
+pub padded_says : (n p : ℕ) (bs : List ℕ) → n ≤ 8 → p + n ≤ length bs → (l : List ℕ) → l ≡ take n (drop p bs)
+    → from_le_bytes w64 (l ++ drop n (replicate 8 0)) ≡ little_endian n (drop p bs)
+padded_says n p bs h k l e =
+    let d : n ≤ length (drop p bs) = rw (length-drop p bs) (omega arith) in
+    rw e (eight_bytes _ ∙ padded n 8 (drop p bs) h d)
 
 pub key_small : (p : ℕ) (bs : List ℕ) → AreBytes bs → little_endian key_bytes (drop p bs) < key_bound
 key_small p bs h =

@@ -1,5 +1,5 @@
 -- A refusal's answer determines the refusal, and no refusal is done.
-use Rattle.std.proofs.Common.{◌≡◌, ℕ, List, [], ◌∷◌, get_or, eqb, refl, ap, sym, ◌∙◌}
+use Rattle.std.proofs.Common.{◌≡◌, ℕ, List, get_or, eqb, refl, ap, sym, ◌∙◌}
 use Rattle.laws.specs.Answers.{Answer, done}
 use Rattle.laws.specs.Pick.{pick}
 use Rattle.laws.specs.Refusals.{number_of, refusal}

@@ -1,9 +1,9 @@
-// What every crate here may want and no crate repeats: the limits of a key, why a call refuses, and definitions and lemmas
-// (specs/, proofs/).
+// What every crate here may want and no crate repeats: the limits of a key, the number in some bytes, why a call refuses, and
+// definitions and lemmas (specs/, proofs/).
 #![tactic(auto)]
 
-ghost use Rattle.std.specs.Prelude.{◌≡◌};
-ghost use Rattle.laws.specs.Bytes.{key_bytes};
+ghost use Rattle.std.specs.Prelude.{◌≡◌, ◌+◌, ◌≤◌, length, drop};
+ghost use Rattle.laws.specs.Bytes.{key_bytes, little_endian};
 ghost use Rattle.laws.specs.Keys.{key_bound};
 ghost use Rattle.laws.specs.Refusals.{number_of};
 
@@ -26,6 +26,17 @@ impl Key {
         ensures bound { Key.BOUND ≡ key_bound }
         ensures bytes { Key.BYTES ≡ key_bytes }
     {}
+}
+
+// The number in the N bytes from p on, lowest first.
+pub fn little_endian<const N: usize>(bytes: &[u8], p: usize) -> u64
+    requires size { N ≤ 8 }
+    requires in_bounds { p + N ≤ length bytes.now }
+    ensures { result ≡ little_endian N (drop p bytes.now) }
+{
+    let mut eight = [0; 8];
+    eight[..N].copy_from_slice(&bytes[p..p + N]);
+    u64::from_le_bytes(eight)
 }
 
 // Why a call refuses, with what it tells besides: the place of the first key that does not rise, or how many nodes were visited
