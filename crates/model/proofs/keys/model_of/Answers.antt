@@ -35,7 +35,7 @@ unreachable-requires g c =
     let rising = c.requires.rising in
     let last = (t-least _ rising (omega arith)).within in
     elim c.loop-t-test.branch [
-    | else-loop-t-test w ↦ omega (arith, try_within _ rising (omega arith) _ c.loop-t.auto.t c.loop-t.invariant)
-    | then-loop-t-test+else-is_spread+else-t-t-end w ↦
-      omega (arith, last, try_fails _ rising (omega arith) _ c.loop-t.auto.t c.loop-t.invariant _ w.model_at-m.ensures _ w.is_spread.ensures w.if-is_spread.false)
+      | else-loop-t-test w ↦ omega (arith, try_within _ rising (omega arith) _ c.loop-t.auto.t c.loop-t.invariant)
+      | then-loop-t-test+else-is_spread+else-t-t-end w ↦
+          omega (arith, last, try_fails _ rising (omega arith) _ c.loop-t.auto.t c.loop-t.invariant _ w.model_at-m.ensures _ w.is_spread.ensures w.if-is_spread.false)
     ]
