@@ -1,39 +1,29 @@
 // Model choice over keys of 6 bytes, lowest byte first, as the engine hands them over.
-ghost use Rattle.std.specs.Prelude.{◌≡◌, ℕ, ◌+◌, ◌*◌, ◌/◌, ◌<◌, ◌≤◌, length, get_or};
-ghost use Rattle.laws.specs.Bytes.{key_bytes, keys_in};
-ghost use Rattle.laws.specs.Keys.{key_bound};
+ghost use Rattle.std.specs.Prelude.{◌≡◌};
+ghost use Rattle.laws.specs.Bytes.{keys_in};
 ghost use Rattle.model.specs.Choice.{model_choice, chosen};
 
-use crate::keys::{KeyBytes, Keys};
+use crate::keys::Keys;
 use crate::{Choice, Model, keys};
 use laws::{Key, Refusal};
 
-fn wide(b: u8) -> u64
-    ensures { (result ≡ b) × (result < 256) }
-{
-    b as u64
+#[derive(Clone, Copy)]
+struct KeyBytes<'a> {
+    bytes: &'a [u8],
 }
 
-// Three bytes from p on, lowest first.
-fn three(bytes: &[u8], p: usize) -> u64
-    requires { p + 3 ≤ length bytes.now }
-    ensures { (result ≡ get_or bytes.now p 0 + 256 * (get_or bytes.now (p + 1) 0 + 256 * get_or bytes.now (p + 2) 0)) × (result < 16777216) }
-{
-    let a = wide(bytes[p]);
-    let b = wide(bytes[p + 1]);
-    let c = wide(bytes[p + 2]);
-    a + 256 * (b + 256 * c)
-}
+impl Keys for KeyBytes<'_> {
+    ghost keys = { λ s. keys_in s.bytes.now };
 
-// The key at place i.
-pub(crate) fn key_at(bytes: &[u8], i: usize) -> u64
-    requires { i < length bytes.now / key_bytes }
-    ensures { (result ≡ get_or (keys_in bytes.now) i 0) × (result < key_bound) }
-{
-    let p = i * Key::BYTES;
-    let low = three(bytes, p);
-    let high = three(bytes, p + 3);
-    low + 16777216 * high
+    #[tactic(auto, using(laws::proofs::Bytes::length_in))]
+    fn len(self) -> usize {
+        self.bytes.len() / Key::BYTES
+    }
+
+    #[tactic(auto, using(laws::proofs::Bytes::length_in, laws::proofs::Bytes::key_in))]
+    fn at(self, i: usize) -> u64 {
+        laws::little_endian::<{ Key::BYTES }>(self.bytes, i * Key::BYTES)
+    }
 }
 
 // Model choice, as document 01 has it.

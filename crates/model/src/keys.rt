@@ -1,13 +1,11 @@
-// A node's model over keys in order, wherever they lie: a list of words, or six bytes each as the engine hands them over. No key
-// is copied: each is read where it lies.
+// A node's model over a list of keys, wherever it lies: in words here, in bytes in the module bytes. No key is copied: each is
+// read where it lies.
 ghost use Rattle.std.specs.Prelude.{◌≡◌, List, ℕ, ◌+◌, ◌<◌, ◌≤◌, length, slice_index};
-ghost use Rattle.laws.specs.Bytes.{keys_in};
 ghost use Rattle.laws.specs.Keys.{Rising, first_fall};
 ghost use Rattle.model.specs.Slots.{InRange};
 ghost use Rattle.model.specs.Choice.{most_keys, slots_for, spread, model_at, choice_of};
 
-use crate::{Choice, Model, bytes, slot_of};
-use laws::Key;
+use crate::{Choice, Model, slot_of};
 
 pub trait Keys: Copy {
     ghost keys: { Self → List ℕ };
@@ -30,24 +28,6 @@ impl Keys for &[u64] {
 
     fn at(self, i: usize) -> u64 {
         self[i]
-    }
-}
-
-// Keys of 6 bytes, lowest byte first.
-#[derive(Clone, Copy)]
-pub struct KeyBytes<'a> {
-    pub bytes: &'a [u8],
-}
-
-impl Keys for KeyBytes<'_> {
-    ghost keys = { λ s. keys_in s.bytes.now };
-
-    fn len(self) -> usize {
-        self.bytes.len() / Key::BYTES
-    }
-
-    fn at(self, i: usize) -> u64 {
-        bytes::key_at(self.bytes, i)
     }
 }
 

@@ -9,7 +9,7 @@ ghost use Rattle.model.specs.Choice.{empty_slots, most_keys, choice_of};
 use laws::{Key, Refusal};
 
 pub mod bytes;
-pub mod keys;
+mod keys;
 
 // A node's model: keys from lo to lo + w - 1 spread over the slots 1 to l - 2.
 #[derive(Clone, Copy, Debug, PartialEq, Eq)]
