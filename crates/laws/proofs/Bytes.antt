@@ -6,7 +6,8 @@ use Prim.Native.Nat.{ℕ, zero, suc, ◌+◌, ◌*◌, ◌/◌, ◌^◌, ◌<◌
 use native.Mathlib.Omega.{arith}
 use lib.ListN.{length, get_or, take, drop, length-drop, drop_of_length-le, get_or-eq_default}
 use lib.Seq.{drop-cons, drop-drop}
-use Rattle.std.proofs.Common.{replicate}
+use Rattle.std.proofs.Common.{replicate, set, sym, append_assoc, add-one}
+use Rattle.std.proofs.Math.Seq.{set-append_seam, take-suc, length-take-le, get_or-drop}
 use Rattle.std.specs.Int.{from_le_bytes, w64}
 use Rattle.laws.proofs.Tests.{le_or_lt}
 use mathlib.Core.Logic.{◌⊎◌, inl, inr}
@@ -68,11 +69,22 @@ eight_bytes bs =
     rw (little_more 7 0 bs, little_more 6 1 bs, little_more 5 2 bs, little_more 4 3 bs, little_more 3 4 bs, little_more 2 5 bs, little_more 1 6 bs, little_more 0 7 bs) (omega arith)
 
 -- n bytes with zeros after them, 8 in all, read at once
-pub padded_says : (n p : ℕ) (bs : List ℕ) → n ≤ 8 → p + n ≤ length bs → (l : List ℕ) → l ≡ take n (drop p bs)
-    → from_le_bytes w64 (l ++ drop n (replicate 8 0)) ≡ little_endian n (drop p bs)
+pub padded_says : (n p : ℕ) (bs : List ℕ) → n ≤ 8 → p + n ≤ length bs → (l : List ℕ) → l ≡ take n (drop p bs) ++ drop n (replicate 8 0)
+    → from_le_bytes w64 l ≡ little_endian n (drop p bs)
 padded_says n p bs h k l e =
     let d : n ≤ length (drop p bs) = rw (length-drop p bs) (omega arith) in
     rw e (eight_bytes _ ∙ padded n 8 (drop p bs) h d)
+
+-- one byte more of those from p on, written over zs
+pub one_put : (p i : ℕ) (bs zs : List ℕ) → p + i < length bs → i < length zs → (l : List ℕ) → l ≡ take i (drop p bs) ++ drop i zs
+    → set l i (get_or bs (p + i) 0) ≡ take (i + 1) (drop p bs) ++ drop (i + 1) zs
+one_put p i bs zs h k l e =
+    let xs = drop p bs in
+    let a = get_or bs (p + i) 0 in
+    let m : i < length xs = rw (length-drop p bs) (omega arith) in
+    let n : length (take i xs) ≡ i = length-take-le i xs (omega arith) in
+    let seam = rw n at (set-append_seam (take i xs) (get_or zs i 0) (drop (suc i) zs) a) in
+    rw (e, drop-cons zs i 0 k, seam, add-one i, take-suc xs i 0 m, get_or-drop p bs i 0) (sym (append_assoc (take i xs) (a ∷ []) (drop (suc i) zs)))
 
 pub key_small : (p : ℕ) (bs : List ℕ) → AreBytes bs → little_endian key_bytes (drop p bs) < key_bound
 key_small p bs h =

@@ -34,8 +34,11 @@ pub fn little_endian<const N: usize>(bytes: &[u8], p: usize) -> u64
     requires in_bounds { p + N ≤ length bytes.now }
     ensures { result ≡ little_endian N (drop p bytes.now) }
 {
+    // Byte by byte: copy_from_slice at a constant N keeps a loop over memory, and model choice took twice the time.
     let mut eight = [0; 8];
-    eight[..N].copy_from_slice(&bytes[p..p + N]);
+    for i in 0..N {
+        eight[i] = bytes[p + i];
+    }
     u64::from_le_bytes(eight)
 }
 

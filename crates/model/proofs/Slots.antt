@@ -1,6 +1,6 @@
 -- Laws of the slot formula: a slot is one of the node's, slots do not fall as values rise, and the test of a model's range
 -- says what the record of its range says. Assumes nothing.
-use mathlib.Core.Bool.{true}
+use mathlib.Core.Bool.{true, false}
 use mathlib.Core.List.{[], ◌∷◌}
 use mathlib.Core.Logic.{◌⊎◌, inl, inr}
 use mathlib.Core.Path.{◌≡◌}
@@ -10,9 +10,11 @@ use native.Mathlib.Omega.{arith}
 use borrow.Author.Tests.{lt-ltb, le-ltb, le-leb, lt-leb, leb-true}
 use lib.Dec.{leb}
 use Rattle.laws.proofs.Quotients.{product_under, share_under, share_rises}
-use Rattle.laws.proofs.Tests.{both, le_or_lt, pick_and}
-use Rattle.laws.specs.Answers.{done, refused, out_of_range, damage}
+use Rattle.laws.proofs.Tests.{le_or_lt, pick_and}
+use Rattle.laws.specs.Answers.{done}
 use Rattle.laws.specs.Keys.{key_bound}
+use Rattle.laws.specs.Refusals.{refusal}
+use Rattle.laws.specs.declared.Refusal.TheVariants.{OutOfRange, Damage}
 use Rattle.model.specs.Slots.{least_slots, most_slots, slot_of, InRange, in_range, slot_choice}
 use Rattle.model.specs.declared.Model.{Model}
 
@@ -84,14 +86,13 @@ module _ (m : Model) where
 
 -- slot choice, way by way
 module _ (k : ℕ) (m : Model) where
-  pub choice-key : key_bound ≤ k → refused out_of_range ≡ slot_choice k m
-  unfolding slot_choice
+  pub choice-key : key_bound ≤ k → refusal OutOfRange ≡ slot_choice k m
+  unfolding slot_choice refusal
   choice-key h = rw (le-ltb k key_bound h)
 
-  pub choice_model : k < key_bound → (InRange m → ⊥) → refused damage ≡ slot_choice k m
-  unfolding slot_choice
-  choice_model h unfit =
-      both (in_range m) (λ e. absurd (unfit (passes_range m e))) (λ e. rw (lt-ltb k key_bound h, e))
+  pub choice_model : k < key_bound → in_range m ≡ false → refusal Damage ≡ slot_choice k m
+  unfolding slot_choice refusal
+  choice_model h e = rw (lt-ltb k key_bound h, e)
 
   pub choice-slot : (s : ℕ) → k < key_bound → InRange m → s ≡ slot_of m k → done (s ∷ []) ≡ slot_choice k m
   unfolding slot_choice

@@ -1,14 +1,14 @@
 -- Choosing a node's model over rising keys (document 01, "To build a node over n rising keys"), and the C edge's model choice
 -- over keys of 6 bytes. Definitions only; that the T searched for exists is a theorem (proofs/Least).
-use Rattle.std.specs.Prelude.{Bool, true, false, List, [], ◌∷◌, ℕ, zero, suc, ◌+◌, ◌-◌, ◌*◌, ◌/◌, ◌%◌, min, max, ltb, leb, eqb, length, get_or}
+use Rattle.std.specs.Prelude.{Result, Ok, Err, Bool, true, false, List, [], ◌∷◌, ℕ, zero, suc, ◌+◌, ◌-◌, ◌*◌, ◌/◌, ◌%◌, min, max, ltb, leb, eqb, length, get_or}
 use Rattle.laws.specs.Answers.{Answer, done, refused, refused_with, wrong_sizes, not_rising}
 use Rattle.laws.specs.Bytes.{key_bytes, keys_in}
 use Rattle.laws.specs.Keys.{first_fall}
 use Rattle.laws.specs.Pick.{pick}
+use Rattle.laws.specs.Refusals.{refusal}
+use Rattle.laws.specs.declared.Refusal.{Refusal}
 use Rattle.model.specs.Slots.{least_slots, most_slots, value_of, value_bound, slot_of}
 use Rattle.model.specs.declared.Choice.{Choice}
-use Rattle.model.specs.declared.Chosen.{Chosen}
-use Rattle.model.specs.declared.Chosen.TheVariants.{Is, NotRising, WrongLength}
 use Rattle.model.specs.declared.Model.{Model}
 
 -- "L = 2n, raised to 4 or lowered to 4,096"
@@ -78,8 +78,7 @@ model_choice bs =
     (pick (leb (length bs / key_bytes) most_keys) (choice_over (keys_in bs)) (refused wrong_sizes))
     (refused wrong_sizes)
 
--- what each case of the code's answer is in document 01
-unfoldable pub chosen : Chosen → Answer ℕ
-chosen (Is c) = done (chosen_values c)
-chosen (NotRising p) = refused_with not_rising (p ∷ [])
-chosen WrongLength = refused wrong_sizes
+-- which answer each result is
+unfoldable pub chosen : Result Choice Refusal → Answer ℕ
+chosen (Ok c) = done (chosen_values c)
+chosen (Err e) = refusal e

@@ -1,12 +1,12 @@
 -- From key to slot (document 01, "From key to slot"). What the C edge, the walk and the build all mean by the slot of a
 -- key, and which models are in range. Definitions only.
-use Rattle.std.specs.Prelude.{Bool, false, [], ◌∷◌, ℕ, ◌+◌, ◌-◌, ◌*◌, ◌/◌, ◌≤◌, ltb, leb}
+use Rattle.std.specs.Prelude.{Bool, false, Result, Ok, Err, [], ◌∷◌, ℕ, ◌+◌, ◌-◌, ◌*◌, ◌/◌, ◌≤◌, ltb, leb}
 use Rattle.laws.specs.Answers.{Answer, done, refused, out_of_range, damage}
 use Rattle.laws.specs.Keys.{key_bound}
 use Rattle.laws.specs.Pick.{pick}
+use Rattle.laws.specs.Refusals.{refusal}
+use Rattle.laws.specs.declared.Refusal.{Refusal}
 use Rattle.model.specs.declared.Model.{Model}
-use Rattle.model.specs.declared.Slotted.{Slotted}
-use Rattle.model.specs.declared.Slotted.TheVariants.{At, KeyOutOfRange, ModelOutOfRange}
 
 -- "A node has 4 to 4,096 slots"
 abbrev pub least_slots : ℕ
@@ -44,8 +44,7 @@ unfoldable pub slot_choice : ℕ → Model → Answer ℕ
 slot_choice k m =
     pick (ltb k key_bound) (pick (in_range m) (done (slot_of m (value_of k) ∷ [])) (refused damage)) (refused out_of_range)
 
--- what each case of the code's answer is in document 01
-unfoldable pub slotted : Slotted → Answer ℕ
-slotted (At s) = done (s ∷ [])
-slotted KeyOutOfRange = refused out_of_range
-slotted ModelOutOfRange = refused damage
+-- which answer each result is
+unfoldable pub slotted : Result ℕ Refusal → Answer ℕ
+slotted (Ok s) = done (s ∷ [])
+slotted (Err e) = refusal e

@@ -2,16 +2,14 @@
 -- code speaks of the number that the bits stand for: here that number is the one meant, since it fits 64 bits.
 use mathlib.Core.Bool.{Bool, true, false, cond}
 use mathlib.Core.Path.{◌≡◌, ap, ◌∙◌, subst⁻¹}
-use Prim.Native.Nat.{ℕ, suc, ◌+◌, ◌-◌, ◌*◌, ◌^◌, ◌<◌, ◌≤◌}
+use Prim.Native.Nat.{ℕ, suc, ◌-◌, ◌^◌, ◌<◌, ◌≤◌}
 use native.Mathlib.Omega.{arith}
-use lib.Dec.{ltb, leb, T}
+use lib.Dec.{ltb}
 use lib.IntN.{ℤ, pos, negsuc, nat_abs, ◌+ℤ◌}
-use lib.Signed.{◌≤ℤ◌, non_neg}
-use borrow.Author.Tests.{leb-true}
+use lib.Signed.{◌≤ℤ◌}
 use mir.Syntax.{w64}
-use mir.Val.{Fits, SFits, to_z, of_z}
+use mir.Val.{SFits, to_z, of_z}
 use mir.ValLaws.{to_z-of_z, to_z_pos}
-use Rattle.laws.proofs.Quotients.{product_under}
 use Rattle.sounding.specs.Studio.{least_depth, most_depth}
 use Rattle.sounding.proofs.Depths.{sum_is_natural, sum_below}
 
@@ -31,22 +29,6 @@ module _ (d : ℤ) (fits : SFits w64 d) (least : least_depth ≤ℤ d) (most : d
 
   pub difference_reads : to_z w64 (of_z w64 (to_z w64 (of_z w64 d) +ℤ pos o)) ≡ pos (nat_abs (d +ℤ pos o))
   difference_reads = to_z-of_z w64 _ difference_fits ∙ reads_as_the_count
-
-  pub difference_casts : T (non_neg (to_z w64 (of_z w64 (to_z w64 (of_z w64 d) +ℤ pos o)))) × Fits w64 (nat_abs (to_z w64 (of_z w64 (to_z w64 (of_z w64 d) +ℤ pos o))))
-  difference_casts = rw difference_reads (tt, record { fits = omega (arith, count_small) })
-
-  pub difference_small : nat_abs (to_z w64 (of_z w64 (to_z w64 (of_z w64 d) +ℤ pos o))) < 2 ^ 35
-  difference_small = rw difference_reads count_small
-
--- What is put together of such counts fits 64 bits. The weight is a literal of the code, so that its bound is a test that computes.
-product_small : (u m : ℕ) → u < 2 ^ 35 → leb m (2 ^ 28) ≡ true → u * m ≤ 2 ^ 63
-product_small u m h k = product_under (2 ^ 35) (2 ^ 28) (omega arith) (leb-true m (2 ^ 28) k)
-
-pub product_fits : (u m : ℕ) → u < 2 ^ 35 → leb m (2 ^ 28) ≡ true → Fits w64 (u * m)
-product_fits u m h k = record { fits = omega (arith, product_small u m h k) }
-
-pub product_and_more-fits : (u m n : ℕ) → u < 2 ^ 35 → leb m (2 ^ 28) ≡ true → n < 2 ^ 35 → Fits w64 (u * m + n)
-product_and_more-fits u m n h k l = record { fits = omega (arith, product_small u m h k) }
 
 -- a natural number and a negative one, each in the range of the type, have a sum in it
 module _ (u k : ℕ) (left : u < 2 ^ 63) (right : k < 2 ^ 63) where

@@ -1,15 +1,12 @@
 -- Studio keys (document 01, "What the index holds"): the key of a depth and a number, the sounding of a key, and what the two
 -- calls answer to every input. The contracts of `pack` and `unpack` cite them. Definitions only.
-use Rattle.std.specs.Prelude.{Bool, ◌&&◌, [], ◌∷◌, ℕ, ◌+◌, ◌*◌, ◌/◌, ◌%◌, ◌^◌, ltb, leb, ℤ, pos, neg_ℤ, nat_abs, ◌+ℤ◌, ◌-ℤ◌}
+use Rattle.std.specs.Prelude.{Bool, Result, Ok, Err, ◌&&◌, [], ◌∷◌, ℕ, ◌+◌, ◌*◌, ◌/◌, ◌%◌, ◌^◌, ltb, leb, ℤ, pos, neg_ℤ, nat_abs, ◌+ℤ◌, ◌-ℤ◌}
 use Rattle.std.specs.Int.Signed.{le_z}
 use Rattle.laws.specs.Pick.{pick}
 use Rattle.laws.specs.Answers.{Answer, done, refused, out_of_range}
 use Rattle.laws.specs.Keys.{key_bound}
 use Rattle.sounding.specs.declared.Sounding.{Sounding}
-use Rattle.sounding.specs.declared.Packed.{Packed}
-use Rattle.sounding.specs.declared.Packed.TheVariants.{Key, OutOfRange as NoKey}
-use Rattle.sounding.specs.declared.Unpacked.{Unpacked}
-use Rattle.sounding.specs.declared.Unpacked.TheVariants.{Of, OutOfRange as NoSounding}
+use Rattle.sounding.specs.declared.OutOfRange.{OutOfRange}
 
 -- "Depth is signed centimetres, negative where it dries, from -20,000 to 1,028,575; number is 0 to 268,435,455."
 abbrev pub least_depth : ℤ
@@ -43,11 +40,11 @@ pack_of depth number =
 unfoldable pub unpack_of : ℕ → Answer Sounding
 unpack_of key = pick (ltb key key_bound) (done (sounding_of key ∷ [])) (refused out_of_range)
 
--- the answer that each case of the code's enums is
-unfoldable pub packed : Packed → Answer ℕ
-packed (Key key) = done (key ∷ [])
-packed NoKey = refused out_of_range
+-- which answer each result is
+unfoldable pub packed : Result ℕ OutOfRange → Answer ℕ
+packed (Ok key) = done (key ∷ [])
+packed (Err e) = refused out_of_range
 
-unfoldable pub unpacked : Unpacked → Answer Sounding
-unpacked (Of sounding) = done (sounding ∷ [])
-unpacked NoSounding = refused out_of_range
+unfoldable pub unpacked : Result Sounding OutOfRange → Answer Sounding
+unpacked (Ok sounding) = done (sounding ∷ [])
+unpacked (Err e) = refused out_of_range

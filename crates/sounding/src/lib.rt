@@ -6,9 +6,11 @@ ghost use Rattle.std.specs.Prelude.{◌≡◌};
 ghost use Rattle.sounding.specs.Studio.{least_depth, most_depth, most_number, packed, pack_of, unpacked, unpack_of};
 
 use laws::Key;
+use std::error::Error;
+use std::fmt;
 
 // A depth in centimetres, negative where it dries, and the sounding's number at that depth.
-#[derive(Clone, Copy)]
+#[derive(Clone, Copy, Debug, PartialEq, Eq)]
 pub struct Sounding {
     pub depth: i64,
     pub number: u64,
@@ -32,42 +34,39 @@ impl Sounding {
     {}
 }
 
-#[derive(Clone, Copy)]
-pub enum Packed {
-    Key(u64),
-    OutOfRange,
+// A depth, number or key out of range.
+#[derive(Clone, Copy, Debug, PartialEq, Eq)]
+pub struct OutOfRange;
+
+impl fmt::Display for OutOfRange {
+    fn fmt<W: fmt::Write>(&self, f: &mut fmt::Formatter<W>) -> fmt::Result {
+        write!(f, "a key, depth or number is out of range")
+    }
 }
 
-#[derive(Clone, Copy)]
-pub enum Unpacked {
-    Of(Sounding),
-    OutOfRange,
-}
+impl Error for OutOfRange {}
 
-pub fn pack(depth: i64, number: u64) -> Packed
+pub fn pack(depth: i64, number: u64) -> Result<u64, OutOfRange>
     ensures { packed result ≡ pack_of depth number }
 {
-    if depth < Sounding::LEAST_DEPTH {
-        return Packed::OutOfRange;
-    }
-    if Sounding::MOST_DEPTH < depth {
-        return Packed::OutOfRange;
+    if !(Sounding::LEAST_DEPTH..=Sounding::MOST_DEPTH).contains(&depth) {
+        return Err(OutOfRange);
     }
     if Sounding::MOST_NUMBER < number {
-        return Packed::OutOfRange;
+        return Err(OutOfRange);
     }
     let above = (depth - Sounding::LEAST_DEPTH) as u64;
-    Packed::Key(above * Sounding::NUMBERS + number)
+    Ok(above * Sounding::NUMBERS + number)
 }
 
-pub fn unpack(key: u64) -> Unpacked
+pub fn unpack(key: u64) -> Result<Sounding, OutOfRange>
     ensures { unpacked result ≡ unpack_of key }
 {
     if Key::BOUND <= key {
-        return Unpacked::OutOfRange;
+        return Err(OutOfRange);
     }
     let above = (key / Sounding::NUMBERS) as i64;
-    Unpacked::Of(Sounding {
+    Ok(Sounding {
         depth: above + Sounding::LEAST_DEPTH,
         number: key % Sounding::NUMBERS,
     })

@@ -1,21 +1,15 @@
 -- `edge::soorqabiye_pack` meets its contract: the leaf's answer, passed on. Assumes nothing.
 use mir.Syntax.{w64}
 use mir.ValLaws.{to_z-of_z}
-use Rattle.sounding.specs.Studio.{packed, pack_of}
-use lib.IntN.{ℤ}
-use mathlib.Core.Path.{◌≡◌, sym, ap, ◌∙◌}
-use Rattle.sounding.specs.declared.Packed.{Packed}
-use Rattle.sounding.specs.declared.Packed.TheVariants.{OutOfRange}
+use mathlib.Core.Path.{ap}
+use Rattle.sounding.specs.Studio.{packed}
 use Rattle.edge.specs.Passing.{pass_key}
 use Rattle.edge.proofs.soorqabiye_pack.Goals as goal
 
-pub returns-in_default : goal.returns-in_default
+pub returns-in-Ok : goal.returns-in-Ok
 unfolding pass_key packed
-returns-in_default c =
-    let e : c.pack.result ≡ OutOfRange = cc in
-    ap (λ (p : Packed). pass_key (packed p)) (sym e) ∙ ap pass_key c.pack.ensures ∙ ap (λ (d : ℤ). pass_key (pack_of d c.args.number)) (to_z-of_z w64 c.args.depth c.ranges.depth)
+returns-in-Ok c = ap pass_key (rw (to_z-of_z w64 c.args.depth c.ranges.depth) at c.in-Ok.ensures)
 
-pub returns : goal.returns
+pub returns-in-Err : goal.returns-in-Err
 unfolding pass_key packed
-returns c =
-    ap (λ (p : Packed). pass_key (packed p)) (sym c.in-Key.is) ∙ ap pass_key c.pack.ensures ∙ ap (λ (d : ℤ). pass_key (pack_of d c.args.number)) (to_z-of_z w64 c.args.depth c.ranges.depth)
+returns-in-Err c = rw c.number.ensures (ap pass_key (rw (to_z-of_z w64 c.args.depth c.ranges.depth) at c.in-Err.ensures))

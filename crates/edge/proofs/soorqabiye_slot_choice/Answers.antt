@@ -1,30 +1,14 @@
 -- `edge::soorqabiye_slot_choice` meets its contract: the leaf's answer, passed on. Assumes nothing.
-use mathlib.Core.Path.{◌≡◌, sym, ap, ◌∙◌}
-use Prim.Native.Nat.{ℕ}
-use Rattle.model.specs.Slots.{slotted, slot_choice}
-use Rattle.model.specs.declared.Model.{Model}
-use Rattle.model.specs.declared.Slotted.{Slotted}
-use Rattle.model.specs.declared.Slotted.TheVariants.{At, KeyOutOfRange, ModelOutOfRange}
+use mathlib.Core.Path.{ap}
+use Rattle.model.specs.Slots.{slotted}
+use Rattle.edge.proofs.Refused.{slot_refused}
 use Rattle.edge.specs.Passing.{pass_slot}
 use Rattle.edge.proofs.soorqabiye_slot_choice.Goals as goal
 
--- the model that the leaf was handed is the one of the call
-passed : (k : ℕ) (m n : Model) → m ≡ n → (r : Slotted) → slotted r ≡ slot_choice k m → (q : Slotted) → r ≡ q → pass_slot (slotted q) ≡ pass_slot (slot_choice k n)
-passed k m n e r h q f = ap pass_slot (ap slotted (sym f) ∙ h ∙ ap (slot_choice k) e)
-
-pub returns-in-At : goal.returns-in-At
+pub returns-in-Ok : goal.returns-in-Ok
 unfolding pass_slot slotted
-returns-in-At c =
-    passed c.args.key _ _ c.new.ensures _ c.slot_choice.ensures (At _) c.in-At.is
+returns-in-Ok c = let h = rw c.new.ensures at c.in-Ok.ensures in ap pass_slot h
 
-pub returns-in-KeyOutOfRange : goal.returns-in-KeyOutOfRange
+pub returns-in-Err : goal.returns-in-Err
 unfolding pass_slot slotted
-returns-in-KeyOutOfRange c =
-    let e : c.slot_choice.result ≡ KeyOutOfRange = cc in
-    passed _ _ _ c.new.ensures _ c.slot_choice.ensures KeyOutOfRange e
-
-pub returns-in-ModelOutOfRange : goal.returns-in-ModelOutOfRange
-unfolding pass_slot slotted
-returns-in-ModelOutOfRange c =
-    let e : c.slot_choice.result ≡ ModelOutOfRange = cc in
-    passed _ _ _ c.new.ensures _ c.slot_choice.ensures ModelOutOfRange e
+returns-in-Err c = let h = rw c.new.ensures at c.in-Err.ensures in rw c.number.ensures (slot_refused _ _ _ h)

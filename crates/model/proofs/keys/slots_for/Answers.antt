@@ -1,7 +1,7 @@
--- `model::slots_for` meets its contract. Assumes nothing.
+-- `model::keys::slots_for` meets its contract. Assumes nothing.
 use native.Mathlib.Omega.{arith}
 use Rattle.model.specs.Choice.{slots_for}
-use Rattle.model.proofs.slots_for.Goals as goal
+use Rattle.model.proofs.keys.slots_for.Goals as goal
 
 pub returns-then-n-lt2 : goal.returns-then-n-lt2
 unfolding slots_for
