@@ -19,7 +19,9 @@ loop-i-preserved-then-used-p c =
     (omega arith, (λ j h. used-next _ _ _ _ l.1 w j (omega arith)))
 
 pub returns-then-not-is_used : goal.returns-then-not-is_used
-returns-then-not-is_used c = sym (first_unused_is _ _ _ _ (omega arith) c.loop-i.invariant.1 (λ h. sym c.is_used.ensures ∙ c.if-not-is_used.true))
+returns-then-not-is_used c =
+    let e = first_unused_is _ _ c.args.n _ (omega arith) c.loop-i.invariant.1 (λ h. sym c.is_used.ensures ∙ c.if-not-is_used.true) in
+    (omega arith, sym e)
 
 pub loop-i-preserved : goal.loop-i-preserved
 loop-i-preserved c =
@@ -27,4 +29,6 @@ loop-i-preserved c =
     (omega arith, used-next _ _ _ 1 l.1 (each_one _ _ (sym c.is_used.ensures ∙ c.if-not-is_used.false)))
 
 pub returns : goal.returns
-returns c = sym (first_unused_is _ _ _ _ (omega arith) (λ j h. c.loop-i.invariant.1 j (omega arith)) (λ h. absurd (omega arith)))
+returns c =
+    let e = first_unused_is _ _ c.args.n c.args.n (omega arith) (λ j h. c.loop-i.invariant.1 j (omega arith)) (λ h. absurd (omega arith)) in
+    λ h. absurd (omega arith)
