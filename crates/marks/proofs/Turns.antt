@@ -9,7 +9,7 @@ use native.Mathlib.Omega.{arith}
 use lib.ListN.{length, get_or, set}
 use Rattle.laws.proofs.Tests.{both, le_or_lt}
 use Rattle.laws.specs.Pick.{pick}
-use Rattle.marks.specs.Used.{used_at, mark_at, clear_at, mark_run, clear_run, set_place, set_run, free_run, full_run}
+use Rattle.marks.specs.Used.{used_at, mark_run, clear_run, set_place, set_run, free_run, full_run}
 use Rattle.marks.proofs.Marks.{Words}
 use Rattle.marks.proofs.Runs.{
   free_run_at,
@@ -54,9 +54,6 @@ full-words_each u p r z e f q a l =
     ⊎_elim (λ m. f q (omega arith) (omega arith)) (λ m. full-word_each u p z e q a m) (le_or_lt (p + 64) q)
 
 -- making the places from q up to e used, or unused
-pub set_start : (b : Bool) (u : List ℕ) (p n : ℕ) → set_run b u p (p + n - p) ≡ set_run b u p n
-set_start b u p n = let d : p + n - p ≡ n = omega arith in rw d
-
 pub set-next : (b : Bool) (u : List ℕ) (q e : ℕ) → q < e → set_run b (set_place b u q) (q + 1) (e - (q + 1)) ≡ set_run b u q (e - q)
 unfolding mark_run clear_run
 set-next true u q e h = let d : e - q ≡ 1 + (e - (q + 1)) = omega arith in rw (d, mark_run_split u q 1 (e - (q + 1)))
@@ -101,9 +98,6 @@ full_not_word u q e z h w n =
 
 pub full_not_here : (u : List ℕ) (q e : ℕ) → q < e → used_at u q ≡ false → false ≡ full_run u q (e - q)
 full_not_here u q e h t = sym (full_run_not u q (e - q) q (omega arith) (omega arith) t)
-
-pub full_start : (u : List ℕ) (p n : ℕ) → full_run u p (p + n - p) ≡ full_run u p n
-full_start u p n = let d : p + n - p ≡ n = omega arith in rw d
 
 pub full-end : (u : List ℕ) (q e : ℕ) → e ≤ q → true ≡ full_run u q (e - q)
 full-end u q e h = sym (full_run_is u q (e - q) (λ x a l. absurd (omega arith)))

@@ -1,5 +1,6 @@
 // The map of used places: test, mark, clear, and the search for the lowest unused place or run. A place is a bit, 64 places
-// a word, lowest bit first. Where 64 places from a word's start lie within what is asked, the word is taken at once.
+// a word, lowest bit first. Where 64 places from a word's start lie within what is asked, the word is taken at once. So a turn of
+// each `while` here passes one place or 64, which no range steps by.
 #![tactic(auto)]
 
 ghost use Rattle.std.specs.Prelude.{◌≡◌, true, ℕ, ◌+◌, ◌*◌, ◌<◌, ◌≤◌, ◌^◌, length, SomeIff};

@@ -8,12 +8,9 @@ use lib.Dec.{eqb}
 use native.Mathlib.Omega.{arith}
 use borrow.Author.Tests.{leb-true}
 use Rattle.marks.proofs.Marks.{store_words}
-use Rattle.marks.proofs.Turns.{set_start, set-next, set-next-word, set-end}
+use Rattle.marks.proofs.Turns.{set-next, set-next-word, set-end}
 use Rattle.marks.proofs.set_run.Goals as goal
 use Rattle.marks.proofs.set_run.Goals.{then-this-ne0, else-this-ne0}
-
-pub loop-q-init : goal.loop-q-init
-loop-q-init g c = (omega arith, set_start _ _ _ _, (λ i. (c.type_inv.used i).fits))
 
 pub loop-q-preserved-then-end-q-ge64 : goal.loop-q-preserved-then-end-q-ge64
 loop-q-preserved-then-end-q-ge64 g c =

@@ -1,7 +1,7 @@
 -- `marks::set_run` meets its contract: at each turn, setting the places that are left is setting them all. Assumes nothing.
 use mathlib.Core.Bool.{not}
 use mathlib.Core.Path.{◌≡◌}
-use Prim.Native.Nat.{◌+◌, ◌-◌, ◌≤◌}
+use Prim.Native.Nat.{◌-◌, ◌≤◌}
 use lib.Dec.{eqb}
 use Rattle.marks.specs.Used.{set_run}
 use Rattle.marks.proofs.Marks.{Words}
