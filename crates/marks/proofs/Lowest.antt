@@ -9,7 +9,7 @@ use native.Mathlib.Omega.{arith}
 use Rattle.std.specs.Prelude.{Option, None, Some}
 use Rattle.laws.proofs.Tests.{both, le_or_lt, true_not_false}
 use Rattle.marks.specs.Used.{used_at, free_run, first_from, first_unused, lowest_from, lowest_run}
-use Rattle.marks.proofs.Runs.{here_or_after}
+use Rattle.marks.proofs.Runs.{here_or_after, free_run_not}
 
 -- of the f places from a on
 first_from_at : (u : List ℕ) (from f a : ℕ)
@@ -122,3 +122,9 @@ module _ (u : List ℕ) (from n l : ℕ) where
 
   pub lowest_run-nowhere : ((j : ℕ) → j + l ≤ n → free_run u (from + j) l ≡ false) → lowest_run u from n l ≡ None
   lowest_run-nowhere g = nowhere_of g (lowest_run u from n l) refl
+
+  -- where every place is used there is no run
+  pub lowest_run-full : 1 ≤ l → n ≤ first_unused u from n → lowest_run u from n l ≡ None
+  lowest_run-full h e =
+      let all = (first_unused_at u from n (first_unused u from n) refl).1 in
+      lowest_run-nowhere (λ j k. free_run_not u (from + j) l (from + j) (omega arith) (omega arith) (all j (omega arith)))
