@@ -273,9 +273,7 @@ fn first_fault(keys: &[u64]) -> Fault
     ensures { result ≡ first_fault keys.now }
 {
     let mut least = 0;
-    let mut i = 0;
-    while i < keys.len() {
-        let k = keys[i];
+    for (i, &k) in keys.iter().enumerate() {
         if Key::BOUND <= k {
             return Fault::OutOfRange;
         }
@@ -283,7 +281,6 @@ fn first_fault(keys: &[u64]) -> Fault
             return Fault::NotRising(i);
         }
         least = k + 1;
-        i += 1;
     }
     Fault::Nothing
 }
