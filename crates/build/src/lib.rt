@@ -25,7 +25,7 @@ pub enum Built {
 }
 
 // Where a search for places may start: every record before `record` and every slot before `slot` is used.
-#[derive(Clone, Copy)]
+#[derive(Clone, Copy, Debug, PartialEq, Eq)]
 pub struct Hint {
     pub record: usize,
     pub slot: usize,

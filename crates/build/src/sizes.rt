@@ -9,7 +9,7 @@ use crate::run_end;
 use model::model_of;
 
 // What a build takes: nodes, slots, and nodes on its longest path.
-#[derive(Clone, Copy)]
+#[derive(Clone, Copy, Debug, PartialEq, Eq)]
 pub struct Needs {
     pub nodes: usize,
     pub slots: usize,
