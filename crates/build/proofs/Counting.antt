@@ -93,13 +93,6 @@ module _ {A : Type 0} (join : A → A → A) (none : A) (unit : (x : A) → join
 abbrev pub Shared : Model → List ℕ → ℕ → ℕ → Type 0
 Shared m ks a b = (i : ℕ) → a ≤ i → i < b → slot_of m (value_of (get_or ks i 0)) ≡ slot_of m (value_of (get_or ks a 0))
 
-module _ (m : Model) (ks : List ℕ) (a : ℕ) where
-  pub shared-first : Shared m ks a (a + 1)
-  shared-first i h lt = let e : i ≡ a = omega arith in rw e
-
-  pub shared-more : (b : ℕ) → Shared m ks a b → slot_of m (value_of (get_or ks b 0)) ≡ slot_of m (value_of (get_or ks a 0)) → Shared m ks a (b + 1)
-  shared-more b f e i h lt = ⊎_elim (λ le. let d : i ≡ b = omega arith in rw d e) (λ l. f i h l) (le_or_lt b i)
-
 -- One run: the keys from a up to b, which share a slot, and those from b on, which go to later ones.
 module _ {m : Model} {ks : List ℕ} {a b : ℕ} (range : InRange m) (r : Rising ks) (run : RunEnd m ks a b) where
   run_and_rest : drop a ks ≡ take (b - a) (drop a ks) ++ drop b ks

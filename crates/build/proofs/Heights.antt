@@ -9,8 +9,7 @@ use native.Mathlib.Omega.{arith}
 use lib.ListN.{length}
 use Rattle.laws.proofs.Tests.{le_or_lt}
 use Rattle.laws.specs.Keys.{Rising}
-use Rattle.marks.specs.declared.Run.{Run}
-use Rattle.marks.specs.declared.Run.TheVariants.{At as RunAt, Nowhere}
+use Rattle.std.proofs.Common.{None, Option, Some}
 use Rattle.model.proofs.Groups.{group_counted, group_rising}
 use Rattle.model.proofs.Heights.{height_positive, height-step, height-rises}
 use Rattle.model.proofs.Least.{chosen-in_range}
@@ -140,9 +139,9 @@ module _ (B C : Builder) (ks : List ℕ) where
   unfolding node_with node_on
   node-same each ps m = rw (on (lowest_slots m (model_of ks).l))
     where
-      on : (w : Run) → node_on B (lowest_record m) (model_of ks) w ks ps m ≡ node_on C (lowest_record m) (model_of ks) w ks ps m
-      on (RunAt s) = fill_slots-same (record { model = model_of ks; start = s }) each (lowest_record m) (model_of ks).l 0 ps _
-      on Nowhere = refl
+      on : (w : Option ℕ) → node_on B (lowest_record m) (model_of ks) w ks ps m ≡ node_on C (lowest_record m) (model_of ks) w ks ps m
+      on (Some s) = fill_slots-same (record { model = model_of ks; start = s }) each (lowest_record m) (model_of ks).l 0 ps _
+      on None = refl
 
 pub build_enough : (d e : ℕ) (ks : List ℕ) → Rising ks → height (length ks) ≤ d → height (length ks) ≤ e → (ps : List ℕ) (m : Mem)
     → build d ks ps m ≡ build e ks ps m

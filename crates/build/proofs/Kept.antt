@@ -12,8 +12,7 @@ use lib.Dec.{eqb, ltb}
 use lib.ListN.{length, get_or}
 use Rattle.laws.proofs.Tests.{both, le_or_lt, true_not_false}
 use Rattle.marks.specs.Used.{used_at, mark_at, mark_run, free_run}
-use Rattle.marks.specs.declared.Run.TheVariants.{At as RunAt, Nowhere}
-use Rattle.marks.specs.declared.Run.{Run}
+use Rattle.std.proofs.Common.{None, Option, Some}
 use Rattle.marks.proofs.Lowest.{first_unused_at, lowest_run_finds}
 use Rattle.marks.proofs.Marks.{mark-length, mark-other, used-within}
 use Rattle.marks.proofs.Runs.{mark_run-length, mark_run_in, mark_run-out, free_run_at}
@@ -122,10 +121,10 @@ module _ (B : Builder) (b : BuilderGrows B) (m : Mem) where
       (slot_grows r (node.start + s) (free s (omega arith) (omega arith)) (keys_to node.model s ks) (payloads_to node.model s ks ps) x g)
       (λ r' y h. slots-grow r node n (s + 1) (λ i lo hi. free i (omega arith) (omega arith)) ks ps y h)
 
-  on_grows : (r : ℕ) → used_at m.used r ≡ false → (md : Model) (w : Run) → lowest_slots m md.l ≡ w → (ks ps : List ℕ) → Grows m (node_on B r md w ks ps m).memory
+  on_grows : (r : ℕ) → used_at m.used r ≡ false → (md : Model) (w : Option ℕ) → lowest_slots m md.l ≡ w → (ks ps : List ℕ) → Grows m (node_on B r md w ks ps m).memory
   unfolding node_on lowest_slots
-  on_grows r free md Nowhere e ks ps = grows_same m
-  on_grows r free md (RunAt s) e ks ps =
+  on_grows r free md None e ks ps = grows_same m
+  on_grows r free md (Some s) e ks ps =
       let n : Node = record { model = md; start = s } in
       let run = (lowest_run_finds m.used (records_in m.nodes) (slots_in m.slots) md.l s e).1 in
       slots-grow r n md.l 0
@@ -181,10 +180,10 @@ slots-answer B r node (suc n) s ks ps m =
     let o = fill_slot B r (node.start + s) (keys_to node.model s ks) (payloads_to node.model s ks ps) m in
     next-answers r o.built o.memory (λ r' m'. fill_slots B r node n (s + 1) ks ps m') (λ r' m'. slots-answer B r node n (s + 1) ks ps m')
 
-on_answers : (B : Builder) (r : ℕ) (md : Model) (w : Run) (ks ps : List ℕ) (m : Mem) → Answers r (node_on B r md w ks ps m).built
+on_answers : (B : Builder) (r : ℕ) (md : Model) (w : Option ℕ) (ks ps : List ℕ) (m : Mem) → Answers r (node_on B r md w ks ps m).built
 unfolding node_on
-on_answers B r md Nowhere ks ps m = no_room-answers r
-on_answers B r md (RunAt s) ks ps m = slots-answer B r (record { model = md; start = s }) md.l 0 ks ps _
+on_answers B r md None ks ps m = no_room-answers r
+on_answers B r md (Some s) ks ps m = slots-answer B r (record { model = md; start = s }) md.l 0 ks ps _
 
 node-within : (B : Builder) (ks ps : List ℕ) (m : Mem) (r : ℕ) → (node_with B ks ps m).built ≡ Some r → r < records_in m.nodes
 unfolding node_with

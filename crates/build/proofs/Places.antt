@@ -12,9 +12,8 @@ use lib.ListN.{length}
 use Rattle.laws.specs.Keys.{Rising}
 use Rattle.laws.proofs.Tests.{both}
 use Rattle.marks.specs.Used.{used_at, mark_at, mark_run, first_unused, lowest_run}
-use Rattle.marks.specs.declared.Run.TheVariants.{At as RunAt, Nowhere}
-use Rattle.marks.specs.declared.Run.{Run}
-use Rattle.marks.proofs.Lowest.{first_unused_at, lowest_run_finds}
+use Rattle.std.proofs.Common.{None, Option, Some}
+use Rattle.marks.proofs.Lowest.{first_unused_at, lowest_run_finds, lowest_run-full}
 use Rattle.marks.proofs.Marks.{mark-same, mark-other}
 use Rattle.marks.proofs.Runs.{mark_run-out}
 use Rattle.model.specs.Choice.{model_of, choice_of}
@@ -26,58 +25,56 @@ use Rattle.pool.specs.Memory.{Mem, records_in, slots_in, slot_place}
 use Rattle.build.specs.Building.{lowest_record, lowest_slots, place_node}
 use Rattle.build.specs.Hints.{Sized, Hinted}
 use Rattle.build.specs.Runs.{first_slot, place_on, place_for, placed_in, Begins}
-use Rattle.build.specs.declared.Hint.{Hint}
 use Rattle.build.specs.declared.Place.{Place}
-use Rattle.build.specs.declared.Placed.TheVariants.{Here, Nowhere as NoPlace}
-use Rattle.build.specs.declared.Placed.{Placed}
 use Rattle.build.proofs.Kept.{mark-keeps, mark_run-keeps, place-keeps}
 
 -- a place made of its numbers
 abbrev pub place_at : ℕ → Model → ℕ → ℕ → Place
 place_at r md s f = record { «record» = r; node = record { model = md; start = s }; next = record { «record» = r + 1; slot = f } }
 
--- a hint's records, as the search for a record counts its places
-pub hinted_records : (m : Mem) (h : Hint) → Hinted m h → (j : ℕ) → j < h.record → used_at m.used (0 + j) ≡ true
-hinted_records m h k j lt = let e : 0 + j ≡ j = omega arith in rw e (k.records-used j lt)
-
 -- the answers of the search, as the code comes to them
-module _ (m : Mem) (md : Model) (r : ℕ) (lowest : r ≡ first_unused m.used 0 (records_in m.nodes)) where
-  pub no_record : records_in m.nodes ≤ r → NoPlace ≡ place_for m md
+module _ (m : Mem) (md : Model) where
+  pub no_record : (first_unused m.used 0 (records_in m.nodes) < records_in m.nodes → ⊥) → None ≡ place_for m md
   unfolding place_for lowest_record
-  no_record h = rw (← lowest, le-ltb _ _ h)
+  no_record h = let e : records_in m.nodes ≤ first_unused m.used 0 (records_in m.nodes) = omega arith in rw (le-ltb _ _ e)
 
-  module _ (room : r < records_in m.nodes) (w : Run) (run : w ≡ lowest_run m.used (records_in m.nodes) (slots_in m.slots) md.l) where
-    pub no_run : w ≡ Nowhere → NoPlace ≡ place_for m md
+  module _ (room : first_unused m.used 0 (records_in m.nodes) < records_in m.nodes) where
+    pub no_run : None ≡ lowest_run m.used (records_in m.nodes) (slots_in m.slots) md.l → None ≡ place_for m md
     unfolding place_for place_on lowest_record lowest_slots
-    no_run e = rw (← lowest, lt-ltb _ _ room, ← run, e)
+    no_run e = rw (lt-ltb _ _ room, ← e)
 
-    pub run_here : (s f : ℕ) → f ≡ first_unused m.used (records_in m.nodes) (slots_in m.slots) → w ≡ RunAt s → Here (place_at r md s f) ≡ place_for m md
+    pub no_slot : 1 ≤ md.l → (first_unused m.used (records_in m.nodes) (slots_in m.slots) < slots_in m.slots → ⊥) → None ≡ place_for m md
+    no_slot h e = no_run (sym (lowest_run-full m.used (records_in m.nodes) (slots_in m.slots) md.l h (omega arith)))
+
+    pub run_here : (r f s : ℕ) → r ≡ first_unused m.used 0 (records_in m.nodes) → f ≡ first_unused m.used (records_in m.nodes) (slots_in m.slots)
+        → Some s ≡ lowest_run m.used (records_in m.nodes) (slots_in m.slots) md.l
+        → Some (place_at r md s f) ≡ place_for m md
     unfolding place_for place_on lowest_record lowest_slots first_slot
-    run_here s f first e = rw (← lowest, lt-ltb _ _ room, ← run, e, ← first)
+    run_here r f s lowest first e = rw (lt-ltb _ _ room, ← e, ← lowest, ← first)
 
 -- what a place found is
 pub record Takes (m : Mem) (md : Model) (p : Place) : Type 0 where
   pub lowest : p.record ≡ lowest_record m
   pub room : lowest_record m < records_in m.nodes
-  pub run : lowest_slots m md.l ≡ RunAt p.node.start
+  pub run : lowest_slots m md.l ≡ Some p.node.start
   pub model : p.node.model ≡ md
   pub after : p.next ≡ record { «record» = lowest_record m + 1; slot = first_slot m }
 
-on_takes : (m : Mem) (md : Model) (w : Run) (p : Place) → lowest_record m < records_in m.nodes → lowest_slots m md.l ≡ w
-    → place_on (lowest_record m) md (first_slot m) w ≡ Here p
+on_takes : (m : Mem) (md : Model) (w : Option ℕ) (p : Place) → lowest_record m < records_in m.nodes → lowest_slots m md.l ≡ w
+    → place_on (lowest_record m) md (first_slot m) w ≡ Some p
     → Takes m md p
 unfolding place_on
-on_takes m md Nowhere p h e q = let z : ◌≡◌ {A = ℕ} 0 1 = cc in absurd (omega arith)
-on_takes m md (RunAt s) p h e q =
+on_takes m md None p h e q = let z : ◌≡◌ {A = ℕ} 0 1 = cc in absurd (omega arith)
+on_takes m md (Some s) p h e q =
     let d : place_at (lowest_record m) md s (first_slot m) ≡ p = cc in
     rw (← d) (record { lowest = refl; room = h; run = e; model = refl; after = refl })
 
-pub here_takes : (m : Mem) (md : Model) (p : Place) → Here p ≡ place_for m md → Takes m md p
+pub here_takes : (m : Mem) (md : Model) (p : Place) → Some p ≡ place_for m md → Takes m md p
 unfolding place_for
 here_takes m md p e =
     both (ltb (lowest_record m) (records_in m.nodes))
     (λ t. on_takes m md (lowest_slots m md.l) p (ltb-true (lowest_record m) (records_in m.nodes) t) refl (sym (rw t at e)))
-    (λ t. let d : Here p ≡ NoPlace = rw t at e in let z : ◌≡◌ {A = ℕ} 0 1 = cc in absurd (omega arith))
+    (λ t. let d : Some p ≡ None = rw t at e in let z : ◌≡◌ {A = ℕ} 0 1 = cc in absurd (omega arith))
 
 module _ (m : Mem) (md : Model) (p : Place) (t : Takes m md p) where
   pub takes_record : p.record < records_in m.nodes
@@ -129,20 +126,20 @@ pub chosen_is_in_range : (ks : List ℕ) → Rising ks → (c : Choice) → c �
 unfolding choice_of
 chosen_is_in_range ks h c e = rw e (chosen-in_range ks h)
 
--- Beginning a node: c is the choice over the keys, and p what was found for its model.
-module _ (m : Mem) (ks : List ℕ) (c : Choice) (e : c ≡ choice_of ks) (p : Placed) (found : p ≡ place_for m c.model) where
-  found_for : p ≡ place_for m (model_of ks)
+-- Beginning a node: c is the choice over the keys.
+module _ (m : Mem) (ks : List ℕ) (c : Choice) (e : c ≡ choice_of ks) where
+  found_for : (p : Option Place) → p ≡ place_for m c.model → p ≡ place_for m (model_of ks)
   unfolding choice_of
-  found_for = rw e at found
+  found_for p found = rw e at found
 
-  pub begins_nowhere : p ≡ NoPlace → Begins ks m m p
+  pub begins_nowhere : None ≡ place_for m c.model → Begins ks m m None
   unfolding placed_in
-  begins_nowhere q = record { place = found_for; memory = rw q }
+  begins_nowhere found = record { place = found_for None found; memory = refl }
 
-  module _ (x : Place) (q : p ≡ Here x) where
+  module _ (x : Place) (found : Some x ≡ place_for m c.model) where
     pub found_within : (x.record < records_in m.nodes) × (x.node.start + x.node.model.l ≤ slots_in m.slots)
-    found_within = let t = here_takes m c.model x (sym q ∙ found) in (takes_record m c.model x t, takes_run m c.model x t)
+    found_within = let t = here_takes m c.model x found in (takes_record m c.model x t, takes_run m c.model x t)
 
-    pub begins_here : (after : Mem) → after ≡ place_node m x.record x.node (length ks) → Begins ks m after (Here x)
+    pub begins_here : (after : Mem) → after ≡ place_node m x.record x.node (length ks) → Begins ks m after (Some x)
     unfolding placed_in
-    begins_here after h = record { place = sym q ∙ found_for; memory = h }
+    begins_here after h = record { place = found_for (Some x) found; memory = h }

@@ -20,8 +20,7 @@ use Rattle.marks.proofs.Lowest.{first_unused_is, lowest_run_here, lowest_run-now
 use Rattle.marks.proofs.Marks.{mark-same, mark-other, mark-length}
 use Rattle.marks.proofs.Runs.{mark_run_in, mark_run-out, mark_run-length, free_run_is, free_run_not, zero_word_unused}
 use Rattle.marks.specs.Used.{used_at, mark_at, mark_run, first_unused, lowest_run}
-use Rattle.marks.specs.declared.Run.{Run}
-use Rattle.marks.specs.declared.Run.TheVariants.{At as RunAt, Nowhere}
+use Rattle.std.proofs.Common.{None, Option, Some}
 use Rattle.model.proofs.Heights.{height_positive}
 use Rattle.model.specs.Choice.{model_of}
 use Rattle.model.specs.Groups.{keys_to}
@@ -52,12 +51,12 @@ module _ (records count : ℕ) where
       (λ e. rw e (on (lowest_run u records count l) (λ s. place-append xs ys (mark_run (mark_at u (first_unused u 0 records)) (records + s) l))))
       (λ e. rw e)
     where
-      on : (w : Run)
+      on : (w : Option ℕ)
           → ((s : ℕ) → place_all records count (xs ++ ys) (mark_run (mark_at u (first_unused u 0 records)) (records + s) l) ≡ place_then (place_all records count xs (mark_run (mark_at u (first_unused u 0 records)) (records + s) l)) (place_all records count ys))
           → at_run w u (λ s. place_all records count (xs ++ ys) (mark_run (mark_at u (first_unused u 0 records)) (records + s) l))
           ≡ place_then (at_run w u (λ s. place_all records count xs (mark_run (mark_at u (first_unused u 0 records)) (records + s) l))) (place_all records count ys)
-      on (RunAt s) h = h s
-      on Nowhere h = refl
+      on (Some s) h = h s
+      on None h = refl
 
   -- pools of so many records and slots
   record Pools (m : Mem) : Type 0 where
@@ -136,17 +135,17 @@ module _ (records count : ℕ) where
     module _ (ks : List ℕ)
         (child : (s : ℕ) → 2 ≤ length (keys_to (model_of ks) s ks) → (qs : List ℕ) (n : Mem) → Pools n → Agrees (B (keys_to (model_of ks) s ks) qs n) (place_all records count (S (keys_to (model_of ks) s ks)) n.used))
         (ps : List ℕ) (m : Mem) (h : Pools m) where
-      run_agrees : (r : ℕ) (w : Run)
+      run_agrees : (r : ℕ) (w : Option ℕ)
           → Agrees (node_on B r (model_of ks) w ks ps m)
           (at_run w m.used (λ s. place_all records count (sizes_under S (model_of ks) (model_of ks).l 0 ks) (mark_run (mark_at m.used r) (records + s) (model_of ks).l)))
       unfolding node_on
-      run_agrees r (RunAt s) =
+      run_agrees r (Some s) =
           let node : Node = record { model = model_of ks; start = s } in
           let m' = place_node m r node (length ks) in
           subst (λ (u : List ℕ). Agrees (fill_slots B r node (model_of ks).l 0 ks ps m') (place_all records count (sizes_under S (model_of ks) (model_of ks).l 0 ks) u))
           (place_node-used m r node (length ks) h)
           (fill_slots_agrees ks node child r (model_of ks).l 0 ps m' (place_node-pools m r node (length ks) h))
-      run_agrees r Nowhere = record { pools = h; map = refl; room = refl }
+      run_agrees r None = record { pools = h; map = refl; room = refl }
 
       node_agrees : Agrees (node_with B ks ps m) (place_all records count ((model_of ks).l ∷ sizes_under S (model_of ks) (model_of ks).l 0 ks) m.used)
       unfolding node_with place_all lowest_record lowest_slots
@@ -226,7 +225,7 @@ module _ (records count : ℕ) (u : List ℕ) (a b : ℕ) (p : Prefix records co
       (λ h. let e : 0 + a ≡ a = omega arith in rw e (p.records-used a h ∙ le-ltb a a (omega arith)))
 
   -- and so the lowest run, if there is room behind the used slots
-  prefix_run : (l : ℕ) → 1 ≤ l → b + l ≤ count → lowest_run u records count l ≡ RunAt b
+  prefix_run : (l : ℕ) → 1 ≤ l → b + l ≤ count → lowest_run u records count l ≡ Some b
   prefix_run l pos h =
       lowest_run_here u records count l b h
       (free_run_is u (records + b) l (λ q le lt.
@@ -234,7 +233,7 @@ module _ (records count : ℕ) (u : List ℕ) (a b : ℕ) (p : Prefix records co
       (rw e at (p.slots-used (q - records) (omega arith))) ∙ le-ltb (q - records) b (omega arith)))
       (λ j lt. free_run_not u (records + j) l (records + j) (omega arith) (omega arith) (p.slots-used j (omega arith) ∙ lt-ltb j b lt))
 
-  prefix_nowhere : (l : ℕ) → 1 ≤ l → count < b + l → lowest_run u records count l ≡ Nowhere
+  prefix_nowhere : (l : ℕ) → 1 ≤ l → count < b + l → lowest_run u records count l ≡ None
   prefix_nowhere l pos h =
       lowest_run-nowhere u records count l (λ j le.
       free_run_not u (records + j) l (records + j) (omega arith) (omega arith) (p.slots-used j (omega arith) ∙ lt-ltb j b (omega arith)))
@@ -277,7 +276,7 @@ module _ (records count : ℕ) (u : List ℕ) (a b : ℕ) (p : Prefix records co
 
 -- a run of no slots is found anywhere and marks nothing, so where it is found does not matter
 run-place : (records count : ℕ) (u : List ℕ) (a b : ℕ) → Prefix records count u a b → (l : ℕ) → b + l ≤ count → (v : List ℕ)
-    → (s : ℕ) × (lowest_run u records count l ≡ RunAt s) × (mark_run v (records + s) l ≡ mark_run v (records + b) l)
+    → (s : ℕ) × (lowest_run u records count l ≡ Some s) × (mark_run v (records + s) l ≡ mark_run v (records + b) l)
 unfolding mark_run
 run-place records count u a b p zero h v = (0, lowest_run_here u records count 0 0 (omega arith) (free_run_is u (records + 0) 0 (λ q x y. absurd (omega arith))) (λ j x. absurd (omega arith)), refl)
 run-place records count u a b p (suc l) h v = (b, prefix_run records count u a b p (suc l) (omega arith) h, refl)

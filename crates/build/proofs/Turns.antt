@@ -24,8 +24,7 @@ use Rattle.build.specs.Runs.{placed_in, Begins, group_at, Groups}
 use Rattle.build.specs.declared.Grown.{Grown}
 use Rattle.build.specs.declared.Hint.{Hint}
 use Rattle.build.specs.declared.Place.{Place}
-use Rattle.build.specs.declared.Placed.TheVariants.{Here, Nowhere as NoPlace}
-use Rattle.build.specs.declared.Placed.{Placed}
+use Rattle.std.proofs.Common.{None, Option, Some}
 use Rattle.build.proofs.Filter.{Filled, filled_start, filled_end, filled_data, filled_group, filled_full}
 use Rattle.build.proofs.Kept.{place-keeps, build-within}
 use Rattle.build.proofs.Level.{build_no_fuel, build-nowhere, build_begun}
@@ -63,10 +62,10 @@ pub record Filling (depth r : ℕ) (node : Node) (ks ps : List ℕ) (a : ℕ) (s
   pub filled : Filled (build depth) r node ks ps a m (fill_slots (build depth) r node node.model.l 0 ks ps start)
 
 -- where the loop begins: the node has its places
-pub filling_start : (depth : ℕ) (ks ps : List ℕ) (before after : Mem) (p : Placed) (x : Place) → Rising ks → length ps ≡ length ks
+pub filling_start : (depth : ℕ) (ks ps : List ℕ) (before after : Mem) (p : Option Place) (x : Place) → Rising ks → length ps ≡ length ks
     → Sized before
     → Begins ks before after p
-    → p ≡ Here x
+    → p ≡ Some x
     → Filling depth x.record x.node ks ps 0 after after x.next
 unfolding placed_in
 filling_start depth ks ps before after p x rises same z b e =
@@ -186,14 +185,14 @@ module _ (fuel : ℕ) (ks ps : List ℕ) (before : Mem) where
   pub ends_no_fuel : (hint : Hint) → fuel < 1 → Hinted before hint → Builds fuel ks ps before before (record { built = None; hint = hint })
   ends_no_fuel hint h k = record { is = build_no_fuel fuel ks ps before h; hint = k }
 
-  module _ (some : 1 ≤ fuel) (begun : Mem) (p : Placed) (b : Begins ks before begun p) where
-    pub ends_nowhere : (hint : Hint) → p ≡ NoPlace → Hinted before hint → Builds fuel ks ps before begun (record { built = None; hint = hint })
+  module _ (some : 1 ≤ fuel) (begun : Mem) (p : Option Place) (b : Begins ks before begun p) where
+    pub ends_nowhere : (hint : Hint) → p ≡ None → Hinted before hint → Builds fuel ks ps before begun (record { built = None; hint = hint })
     unfolding placed_in
     ends_nowhere hint e k =
         let q : begun ≡ before = rw e at b.memory in
         record { is = build-nowhere fuel ks ps before some begun p b.place b.memory e; hint = rw q k }
 
-    pub begun_fills : (x : Place) → p ≡ Here x
+    pub begun_fills : (x : Place) → p ≡ Some x
         → fill_slots (build (fuel - 1)) x.record x.node x.node.model.l 0 ks ps begun ≡ build fuel ks ps before
     begun_fills x e = build_begun fuel ks ps before some begun p x b.place b.memory e
 

@@ -14,9 +14,8 @@ use lib.ListN.{length, get_or, set, take, drop, replicate, length-set, length-dr
 use lib.Seq.{sets, sets-eq, get_or-set_same, get_or-set_other, get_or-drop, get_or-take, drop-cons, length-take-le, ext_get_or}
 use Rattle.laws.proofs.Tests.{both, le_or_lt}
 use Rattle.marks.specs.Used.{used_at, mark_at, mark_run, clear_at, clear_run, first_unused, lowest_run}
-use Rattle.marks.specs.declared.Run.TheVariants.{At, Nowhere as NoRun}
-use Rattle.marks.specs.declared.Run.{Run}
-use Rattle.marks.proofs.Lowest.{first_unused_at, lowest_run_finds}
+use Rattle.std.proofs.Common.{None, Option, Some}
+use Rattle.marks.proofs.Lowest.{first_unused_at, lowest_run_finds, lowest_run-full}
 use Rattle.marks.proofs.Marks.{Words, mark-same, mark-other, mark-length, mark-words, used-within, clear-mark}
 use Rattle.marks.proofs.Runs.{free_run_at, free_run_is, mark_run_in, mark_run-out, mark_run-length, mark_run-words, clear-mark_run}
 use Rattle.build.specs.Room.{place_all, Placed, at_run}
@@ -34,8 +33,6 @@ use Rattle.build.specs.Undoing.{
   undo_word,
   undone_by,
 }
-use Rattle.build.specs.declared.room.Found.TheVariants.{Here, Nowhere}
-use Rattle.build.specs.declared.room.Found.{Found}
 use Rattle.build.specs.declared.room.Spot.{Spot}
 
 -- a spot made of its numbers
@@ -54,53 +51,57 @@ module _ (l r s : ℕ) (hr : r < 2 ^ 24) (hs : s < 2 ^ 24) where
   word-start = omega arith
 
 -- the answers of the search, as the code comes to them
-module _ (records count l : ℕ) (u : List ℕ) (r : ℕ) (lowest : r ≡ first_unused u 0 records) where
-  pub spot_no_record : records ≤ r → Nowhere ≡ spot_for records count l u
+module _ (records count l : ℕ) (u : List ℕ) where
+  pub spot_no_record : (first_unused u 0 records < records → ⊥) → None ≡ spot_for records count l u
   unfolding spot_for
-  spot_no_record h = rw (← lowest, le-ltb r records h)
+  spot_no_record h = let e : records ≤ first_unused u 0 records = omega arith in rw (le-ltb _ _ e)
 
-  module _ (room : r < records) (f : ℕ) (first : f ≡ first_unused u records count) where
-    pub spot_no_run : NoRun ≡ lowest_run u records count l → Nowhere ≡ spot_for records count l u
+  module _ (room : first_unused u 0 records < records) where
+    pub spot_no_run : None ≡ lowest_run u records count l → None ≡ spot_for records count l u
     unfolding spot_for spot_on
-    spot_no_run e = rw (← lowest, lt-ltb r records room, ← e)
+    spot_no_run e = rw (lt-ltb _ _ room, ← e)
 
-    pub spot_here : (s : ℕ) → At s ≡ lowest_run u records count l → Here (spot_at r s f) ≡ spot_for records count l u
+    pub spot_no_slot : 1 ≤ l → (first_unused u records count < count → ⊥) → None ≡ spot_for records count l u
+    spot_no_slot h e = spot_no_run (sym (lowest_run-full u records count l h (omega arith)))
+
+    pub spot_here : (r f s : ℕ) → r ≡ first_unused u 0 records → f ≡ first_unused u records count → Some s ≡ lowest_run u records count l
+        → Some (spot_at r s f) ≡ spot_for records count l u
     unfolding spot_for spot_on
-    spot_here s e = rw (← lowest, lt-ltb r records room, ← e, ← first)
+    spot_here r f s lowest first e = rw (lt-ltb _ _ room, ← e, ← lowest, ← first)
 
 -- what a spot is
 record Spotted (records count l : ℕ) (u : List ℕ) (p : Spot) : Type 0 where
   pub lowest : first_unused u 0 records ≡ p.record
   pub room : p.record < records
   pub first : first_unused u records count ≡ p.first
-  pub run : lowest_run u records count l ≡ At p.start
+  pub run : lowest_run u records count l ≡ Some p.start
 
 on_run : (records count l : ℕ) (u : List ℕ) (r f : ℕ) (p : Spot) → first_unused u 0 records ≡ r → r < records → first_unused u records count ≡ f
-    → (w : Run) → lowest_run u records count l ≡ w → Here p ≡ spot_on r f w → Spotted records count l u p
+    → (w : Option ℕ) → lowest_run u records count l ≡ w → Some p ≡ spot_on r f w → Spotted records count l u p
 unfolding spot_on
-on_run records count l u r f p lo ro fi (At s) ru e =
+on_run records count l u r f p lo ro fi (Some s) ru e =
     let d : p ≡ spot_at r s f = cc in
     rw d (record { lowest = lo; room = ro; first = fi; run = ru })
-on_run records count l u r f p lo ro fi NoRun ru e = let z : ◌≡◌ {A = ℕ} 0 1 = cc in absurd (omega arith)
+on_run records count l u r f p lo ro fi None ru e = let z : ◌≡◌ {A = ℕ} 0 1 = cc in absurd (omega arith)
 
-spotted : (records count l : ℕ) (u : List ℕ) (p : Spot) → Here p ≡ spot_for records count l u → Spotted records count l u p
+spotted : (records count l : ℕ) (u : List ℕ) (p : Spot) → Some p ≡ spot_for records count l u → Spotted records count l u p
 unfolding spot_for
 spotted records count l u p e =
     both (ltb (first_unused u 0 records) records)
     (λ t. on_run records count l u _ _ p refl (ltb-true _ _ t) refl (lowest_run u records count l) refl (rw t at e))
     (λ t.
-    let d : Here p ≡ Nowhere = rw t at e in
+    let d : Some p ≡ None = rw t at e in
     let z : ◌≡◌ {A = ℕ} 0 1 = cc in
     absurd (omega arith))
 
 -- where a size has no spot, nothing from it on fits
-stuck_run : (records count l : ℕ) (ls u : List ℕ) (r f : ℕ) → (w : Run) → Nowhere ≡ spot_on r f w
+stuck_run : (records count l : ℕ) (ls u : List ℕ) (r f : ℕ) → (w : Option ℕ) → None ≡ spot_on r f w
     → (g : ℕ → Placed) → (at_run w u g).fits ≡ false
 unfolding spot_on
-stuck_run records count l ls u r f (At s) e g = let z : ◌≡◌ {A = ℕ} 0 1 = cc in absurd (omega arith)
-stuck_run records count l ls u r f NoRun e g = refl
+stuck_run records count l ls u r f (Some s) e g = let z : ◌≡◌ {A = ℕ} 0 1 = cc in absurd (omega arith)
+stuck_run records count l ls u r f None e g = refl
 
-stuck : (records count l : ℕ) (ls u : List ℕ) → Nowhere ≡ spot_for records count l u → (place_all records count (l ∷ ls) u).fits ≡ false
+stuck : (records count l : ℕ) (ls u : List ℕ) → None ≡ spot_for records count l u → (place_all records count (l ∷ ls) u).fits ≡ false
 unfolding spot_for place_all
 stuck records count l ls u e =
     both (ltb (first_unused u 0 records) records)
@@ -174,11 +175,11 @@ module _ (records count l : ℕ) (u : List ℕ) (p : Spot) (map : Mapped records
       }
 
 -- what marking does, once it is known whether there is a spot
-pub marked_nowhere : (records l : ℕ) (f : Found) (u v : List ℕ) → f ≡ Nowhere → v ≡ marked_by records l f u → v ≡ u
+pub marked_nowhere : (records l : ℕ) (f : Option Spot) (u v : List ℕ) → f ≡ None → v ≡ marked_by records l f u → v ≡ u
 unfolding marked_by
 marked_nowhere records l f u v e h = rw e at h
 
-pub marked_here : (records l : ℕ) (f : Found) (u v : List ℕ) (p : Spot) → f ≡ Here p → v ≡ marked_by records l f u
+pub marked_here : (records l : ℕ) (f : Option Spot) (u v : List ℕ) (p : Spot) → f ≡ Some p → v ≡ marked_by records l f u
     → v ≡ mark_run (mark_at u p.record) (records + p.start) l
 unfolding marked_by
 marked_here records l f u v p e h = rw e at h
@@ -265,7 +266,7 @@ module _ (records count n : ℕ) (list₀ used₀ : List ℕ) (a : Asked records
           rw (add-one i, g.rest i (omega arith))
           (drop-cons (take n list₀) i 0 (rw (length-take-le n list₀ a.within) h) ∙ rw (get_or-take n list₀ i 0 h))
 
-      pub going_stuck : Nowhere ≡ spot_for records count size used → Tried records count n list₀ used₀ list used i
+      pub going_stuck : None ≡ spot_for records count size used → Tried records count n list₀ used₀ list used i
       going_stuck e = record {
         within = g.within;
         fits = ne_eqb i n (λ d. omega arith) ∙ sym (stuck records count size (drop (i + 1) (take n list₀)) used e) ∙ (rw going_next at g.left);
@@ -275,7 +276,7 @@ module _ (records count n : ℕ) (list₀ used₀ : List ℕ) (a : Asked records
         rest = λ j k. g.rest j (omega arith);
       }
 
-      module _ (p : Spot) (e : Here p ≡ spot_for records count size used) where
+      module _ (p : Spot) (e : Some p ≡ spot_for records count size used) where
         at : Spotted records count size used p
         at = spotted records count size used p e
 
@@ -332,7 +333,7 @@ unfolding undone_by
 undo-end records ws zero u h = refl
 undo-end records ws (suc i) u h = absurd (omega arith)
 
-wiped_is : (l : List ℕ) (n : ℕ) → n ≤ length l → sets l 0 (replicate n 0) ≡ replicate n 0 ++ drop n l
+pub wiped_is : (l : List ℕ) (n : ℕ) → n ≤ length l → sets l 0 (replicate n 0) ≡ replicate n 0 ++ drop n l
 wiped_is l n h =
     let z : length (replicate {A = ℕ} n 0) ≡ n = length-replicate n 0 in
     let y : 0 + length (replicate {A = ℕ} n 0) ≡ n = omega arith in

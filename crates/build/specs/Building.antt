@@ -1,11 +1,9 @@
 -- Building a tree over rising keys (document 01, "From key to slot" and "Where nodes go"): a node takes the lowest unused record
 -- and the lowest run, parent before children, children in slot order, each with its whole subtree before the next. Stated slot
 -- by slot; the code goes by runs of keys. Definitions only.
-use Rattle.std.specs.Prelude.{List, [], ◌∷◌, ℕ, zero, suc, ◌+◌, ltb, eqb, length, get_or, None, Option, Some}
+use Rattle.std.specs.Prelude.{None, Option, Some, List, [], ◌∷◌, ℕ, zero, suc, ◌+◌, ltb, eqb, length, get_or}
 use Rattle.laws.specs.Pick.{pick}
 use Rattle.marks.specs.Used.{mark_at, mark_run, first_unused, lowest_run}
-use Rattle.marks.specs.declared.Run.{Run}
-use Rattle.marks.specs.declared.Run.TheVariants.{At as RunAt, Nowhere}
 use Rattle.model.specs.Choice.{model_of}
 use Rattle.model.specs.Groups.{keys_to}
 use Rattle.model.specs.Slots.{value_of, slot_of}
@@ -35,7 +33,7 @@ unfoldable pub lowest_record : Mem → ℕ
 lowest_record m = first_unused m.used 0 (records_in m.nodes)
 
 -- the lowest start at which l consecutive slots are unused
-unfoldable pub lowest_slots : Mem → ℕ → Run
+unfoldable pub lowest_slots : Mem → ℕ → Option ℕ
 lowest_slots m l = lowest_run m.used (records_in m.nodes) (slots_in m.slots) l
 
 -- a new node over `count` keys at record r: its record, its slots all NULL, its places marked used
@@ -75,9 +73,9 @@ fill_slots B r node (suc n) s ks ps m =
     (λ r' m'. fill_slots B r node n (s + 1) ks ps m')
 
 -- one node, whose children B builds; "one of the two lacking is enough"
-unfoldable pub node_on : Builder → ℕ → Model → Run → Builder
-node_on B r md Nowhere ks ps m = out None m
-node_on B r md (RunAt s) ks ps m =
+unfoldable pub node_on : Builder → ℕ → Model → Option ℕ → Builder
+node_on B r md None ks ps m = out None m
+node_on B r md (Some s) ks ps m =
     fill_slots B r (record { model = md; start = s }) md.l 0 ks ps (place_node m r (record { model = md; start = s }) (length ks))
 
 unfoldable pub node_with : Builder → Builder

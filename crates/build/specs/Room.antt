@@ -1,11 +1,9 @@
 -- Room for a build (document 01, "Where nodes go"): sizes placed one after the other by first fit, each at the lowest unused
 -- record and the lowest run, on the map of used places alone. "There is no room exactly when some node of the build finds neither
 -- record or run at its turn; one of the two lacking is enough." Definitions only.
-use Rattle.std.specs.Prelude.{Bool, true, false, List, [], ◌∷◌, ◌≡◌, ℕ, ◌+◌, ◌*◌, ◌<◌, ◌≤◌, ltb, length, None, Option, Some}
+use Rattle.std.specs.Prelude.{Bool, true, false, None, Option, Some, List, [], ◌∷◌, ◌≡◌, ℕ, ◌+◌, ◌*◌, ◌<◌, ◌≤◌, ltb, length}
 use Rattle.laws.specs.Pick.{pick}
 use Rattle.marks.specs.Used.{used_at, mark_at, mark_run, first_unused, lowest_run}
-use Rattle.marks.specs.declared.Run.{Run}
-use Rattle.marks.specs.declared.Run.TheVariants.{At as RunAt, Nowhere}
 
 -- what placing leaves: whether every size had its place, and the map as far as it came
 pub record Placed : Type 0 where
@@ -16,9 +14,9 @@ abbrev pub placed : Bool → List ℕ → Placed
 placed f u = record { fits = f; used = u }
 
 -- go on at the run found
-abbrev pub at_run : Run → List ℕ → (ℕ → Placed) → Placed
-at_run (RunAt s) u f = f s
-at_run Nowhere u f = placed false u
+abbrev pub at_run : Option ℕ → List ℕ → (ℕ → Placed) → Placed
+at_run (Some s) u f = f s
+at_run None u f = placed false u
 
 -- the sizes in turn, on a map of so many records and then so many slots, marked as a build marks them
 unfoldable pub place_all : ℕ → ℕ → List ℕ → List ℕ → Placed

@@ -1,10 +1,8 @@
 -- The code's way of building, which proofs/Level.antt and proofs/Filter.antt join to Building's: where a node goes, with the hint
 -- for the search after it, where a run of keys that share a slot ends, and one group of keys. Definitions only.
-use Rattle.std.specs.Prelude.{List, ◌≡◌, ℕ, ◌+◌, ◌<◌, ◌≤◌, ltb, length, get_or, Some}
+use Rattle.std.specs.Prelude.{None, Option, Some, List, ◌≡◌, ℕ, ◌+◌, ◌<◌, ◌≤◌, ltb, length, get_or}
 use Rattle.laws.specs.Pick.{pick}
 use Rattle.marks.specs.Used.{first_unused}
-use Rattle.marks.specs.declared.Run.TheVariants.{At as RunAt, Nowhere}
-use Rattle.marks.specs.declared.Run.{Run}
 use Rattle.model.specs.Choice.{model_of}
 use Rattle.model.specs.Slots.{value_of, slot_of}
 use Rattle.model.specs.declared.Model.{Model}
@@ -13,33 +11,32 @@ use Rattle.pool.specs.Writing.{put_child}
 use Rattle.build.specs.Building.{out, and_then, Builder, with_slots, lowest_record, lowest_slots, place_node}
 use Rattle.build.specs.Hints.{Hinted}
 use Rattle.build.specs.declared.Grown.{Grown}
-use Rattle.build.specs.declared.Placed.TheVariants.{Here, Nowhere as NoPlace}
-use Rattle.build.specs.declared.Placed.{Placed}
+use Rattle.build.specs.declared.Place.{Place}
 
 -- the first unused slot; as many as there are slots if all are used
 unfoldable pub first_slot : Mem → ℕ
 first_slot m = first_unused m.used (records_in m.nodes) (slots_in m.slots)
 
 -- on a run: after the record r and the slots before f no search has to look again
-unfoldable pub place_on : ℕ → Model → ℕ → Run → Placed
-place_on r md f Nowhere = NoPlace
-place_on r md f (RunAt s) =
-    Here (record { «record» = r; node = record { model = md; start = s }; next = record { «record» = r + 1; slot = f } })
+unfoldable pub place_on : ℕ → Model → ℕ → Option ℕ → Option Place
+place_on r md f None = None
+place_on r md f (Some s) =
+    Some (record { «record» = r; node = record { model = md; start = s }; next = record { «record» = r + 1; slot = f } })
 
 -- the places of a node with the model md
-unfoldable pub place_for : Mem → Model → Placed
+unfoldable pub place_for : Mem → Model → Option Place
 place_for m md =
     pick (ltb (lowest_record m) (records_in m.nodes))
     (place_on (lowest_record m) md (first_slot m) (lowest_slots m md.l))
-    NoPlace
+    None
 
 -- the memory with the new node over `count` keys
-unfoldable pub placed_in : Mem → Placed → ℕ → Mem
-placed_in m NoPlace count = m
-placed_in m (Here p) count = place_node m p.record p.node count
+unfoldable pub placed_in : Mem → Option Place → ℕ → Mem
+placed_in m None count = m
+placed_in m (Some p) count = place_node m p.record p.node count
 
 -- what beginning a node over the keys leaves
-pub record Begins (ks : List ℕ) (before after : Mem) (p : Placed) : Type 0 where
+pub record Begins (ks : List ℕ) (before after : Mem) (p : Option Place) : Type 0 where
   pub place : p ≡ place_for before (model_of ks)
   pub memory : after ≡ placed_in before p (length ks)
 

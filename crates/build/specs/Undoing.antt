@@ -1,15 +1,12 @@
 -- Judging whether there is room for a build: what is asked, where one size goes, the word by which its marks are undone, and
 -- what the judgement leaves. The sizes are placed as Room says; afterwards the map is as it was. Definitions only.
-use Rattle.std.specs.Prelude.{Bool, true, List, ◌≡◌, ℕ, zero, suc, ◌+◌, ◌*◌, ◌/◌, ◌%◌, ◌^◌, ◌<◌, ◌≤◌, ltb, eqb, length, get_or, take, replicate}
+use Rattle.std.specs.Prelude.{Bool, true, None, Option, Some, List, ◌≡◌, ℕ, zero, suc, ◌+◌, ◌*◌, ◌/◌, ◌%◌, ◌^◌, ◌<◌, ◌≤◌, ltb, eqb, length, get_or, take, replicate}
 use Rattle.std.proofs.lemmas.List.Edits.{sets}
 use Rattle.laws.specs.Pick.{pick}
 use Rattle.marks.specs.Used.{used_at, mark_at, mark_run, clear_at, clear_run, first_unused, lowest_run}
-use Rattle.marks.specs.declared.Run.TheVariants.{At, Nowhere as NoRun}
-use Rattle.marks.specs.declared.Run.{Run}
 use Rattle.model.specs.Slots.{most_slots}
 use Rattle.build.specs.Room.{place_all}
-use Rattle.build.specs.declared.room.Found.TheVariants.{Here, Nowhere}
-use Rattle.build.specs.declared.room.Found.{Found}
+use Rattle.build.specs.declared.room.Spot.{Spot}
 
 -- the map has a bit for every place, and a record's or a slot's number fits 24 bits
 pub record Mapped (records count : ℕ) (used : List ℕ) : Type 0 where
@@ -31,20 +28,20 @@ pub record Asked (records count n : ℕ) (list used : List ℕ) : Type 0 where
   pub sizes : (i : ℕ) → i < n → (1 ≤ get_or list i 0) × (get_or list i 0 ≤ most_slots)
 
 -- where a size goes: the lowest unused record and the lowest run, if there are both
-unfoldable pub spot_on : ℕ → ℕ → Run → Found
-spot_on r f NoRun = Nowhere
-spot_on r f (At s) = Here (record { «record» = r; start = s; first = f })
+unfoldable pub spot_on : ℕ → ℕ → Option ℕ → Option Spot
+spot_on r f None = None
+spot_on r f (Some s) = Some (record { «record» = r; start = s; first = f })
 
-unfoldable pub spot_for : ℕ → ℕ → ℕ → List ℕ → Found
+unfoldable pub spot_for : ℕ → ℕ → ℕ → List ℕ → Option Spot
 spot_for records count l u =
     pick (ltb (first_unused u 0 records) records)
     (spot_on (first_unused u 0 records) (first_unused u records count) (lowest_run u records count l))
-    Nowhere
+    None
 
 -- the map once a size has its places
-unfoldable pub marked_by : ℕ → ℕ → Found → List ℕ → List ℕ
-marked_by records l Nowhere u = u
-marked_by records l (Here p) u = mark_run (mark_at u p.record) (records + p.start) l
+unfoldable pub marked_by : ℕ → ℕ → Option Spot → List ℕ → List ℕ
+marked_by records l None u = u
+marked_by records l (Some p) u = mark_run (mark_at u p.record) (records + p.start) l
 
 -- a size's places in one word: its size, its record and its start
 abbrev pub word_of : ℕ → ℕ → ℕ → ℕ

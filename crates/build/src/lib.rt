@@ -14,12 +14,11 @@ ghost use Rattle.build.specs.Building.{build, place_node};
 ghost use Rattle.build.specs.Hints.{Sized, Hinted, Builds};
 ghost use Rattle.build.specs.Runs.{place_for, Begins, RunEnd, Groups};
 
-use marks::Run;
 use model::Model;
 use pool::Node;
 
 // Where a search for places may start: every record before `record` and every slot before `slot` is used.
-#[derive(Clone, Copy)]
+#[derive(Clone, Copy, Debug, PartialEq, Eq)]
 pub struct Hint {
     pub record: usize,
     pub slot: usize,
@@ -40,14 +39,8 @@ struct Place {
     next: Hint,
 }
 
-#[derive(Clone, Copy)]
-enum Placed {
-    Here(Place),
-    Nowhere,
-}
-
 // The lowest unused record and the lowest run for a node with the model m.
-fn find_place(nodes: &[u64], slots: &[u64], used: &[u64], m: Model, hint: Hint) -> Placed
+fn find_place(nodes: &[u64], slots: &[u64], used: &[u64], m: Model, hint: Hint) -> Option<Place>
     requires sized { Sized (mem nodes.now slots.now used.now) }
     requires hinted { Hinted (mem nodes.now slots.now used.now) hint }
     requires in_range { InRange m }
@@ -55,24 +48,17 @@ fn find_place(nodes: &[u64], slots: &[u64], used: &[u64], m: Model, hint: Hint) 
 {
     let records = nodes.len() / Node::RECORD_WORDS;
     let count = slots.len() / Node::SLOT_WORDS;
-    let record = marks::first_unused(used, 0, records, hint.record);
-    if records <= record {
-        return Placed::Nowhere;
-    }
-    let first = marks::first_unused(used, records, count, hint.slot);
-    match marks::lowest_run(used, records, count, m.l as usize, first) {
-        Run::Nowhere => Placed::Nowhere,
-        Run::At(start) => {
-            Placed::Here(Place {
-                record,
-                node: Node { model: m, start },
-                next: Hint {
-                    record: record + 1,
-                    slot: first,
-                },
-            })
-        }
-    }
+    let record = marks::first_unused(used, 0, records, hint.record)?;
+    let first = marks::first_unused(used, records, count, hint.slot)?;
+    let start = marks::lowest_run(used, records, count, m.l as usize, first)?;
+    Some(Place {
+        record,
+        node: Node { model: m, start },
+        next: Hint {
+            record: record + 1,
+            slot: first,
+        },
+    })
 }
 
 // A new node's record, its slots all NULL, and its places marked.
@@ -98,7 +84,7 @@ fn begin_node(
     slots: &mut [u64],
     used: &mut [u64],
     hint: Hint,
-) -> Placed
+) -> Option<Place>
     requires rising { Rising keys.now }
     requires keys_len_bound { length keys.now ≤ most_keys }
     requires sized { Sized (mem nodes.old slots.old used.old) }
@@ -107,18 +93,16 @@ fn begin_node(
 {
     let c = model::model_of(keys);
     let m = c.model;
-    let p = find_place(nodes, slots, used, m, hint);
-    if let Placed::Here(place) = p {
-        place_node(
-            nodes,
-            slots,
-            used,
-            place.record,
-            place.node,
-            keys.len() as u64,
-        );
-    }
-    p
+    let place = find_place(nodes, slots, used, m, hint)?;
+    place_node(
+        nodes,
+        slots,
+        used,
+        place.record,
+        place.node,
+        keys.len() as u64,
+    );
+    Some(place)
 }
 
 // The end of the run of keys from a on that share a slot.
@@ -129,14 +113,12 @@ fn run_end(keys: &[u64], a: usize, m: Model) -> usize
     ensures { RunEnd m keys.now a result }
 {
     let s = model::slot_of(m, keys[a]);
-    let mut b = a + 1;
-    while b < keys.len() {
+    for b in a + 1..keys.len() {
         if model::slot_of(m, keys[b]) != s {
             return b;
         }
-        b += 1;
     }
-    b
+    keys.len()
 }
 
 // The child over the keys of one slot, and slot q that leads to it.
@@ -189,7 +171,7 @@ pub fn build_node(
     if fuel < 1 {
         return Grown { built: None, hint };
     }
-    let Placed::Here(place) = begin_node(keys, nodes, slots, used, hint) else {
+    let Some(place) = begin_node(keys, nodes, slots, used, hint) else {
         return Grown { built: None, hint };
     };
     let record = place.record;

@@ -4,8 +4,6 @@ ghost use Rattle.std.specs.Prelude.{◌≡◌, ◌*◌, ◌≤◌, length, repli
 ghost use Rattle.std.proofs.lemmas.List.Edits.{sets};
 ghost use Rattle.build.specs.Undoing.{Mapped, Sought, Asked, Tried, Judged, Undoable, spot_for, marked_by, undone_by};
 
-use marks::Run;
-
 // a kept word is size * SIZE + record * RECORD + start
 const SIZE: u64 = 281474976710656;
 
@@ -19,30 +17,26 @@ struct Spot {
     first: usize,
 }
 
-#[derive(Clone, Copy)]
-enum Found {
-    Here(Spot),
-    Nowhere,
-}
-
 // One size takes its places, if there are any. The records before r and the slots before s are known to be used.
-fn place_one(used: &mut [u64], records: usize, count: usize, l: usize, r: usize, s: usize) -> Found
+fn place_one(
+    used: &mut [u64],
+    records: usize,
+    count: usize,
+    l: usize,
+    r: usize,
+    s: usize,
+) -> Option<Spot>
     requires mapped { Mapped records count used.old }
     requires sought { Sought records count used.old r s }
     requires le_l { 1 ≤ l }
     ensures { (result ≡ spot_for records count l used.old) × (used.new ≡ marked_by records l result used.old) }
 {
-    let record = marks::first_unused(used, 0, records, r);
-    if records <= record {
-        return Found::Nowhere;
-    }
-    let first = marks::first_unused(used, records, count, s);
-    let Run::At(start) = marks::lowest_run(used, records, count, l, first) else {
-        return Found::Nowhere;
-    };
+    let record = marks::first_unused(used, 0, records, r)?;
+    let first = marks::first_unused(used, records, count, s)?;
+    let start = marks::lowest_run(used, records, count, l, first)?;
     marks::mark(used, record);
     marks::mark_run(used, records + start, l);
-    Found::Here(Spot {
+    Some(Spot {
         record,
         start,
         first,
@@ -56,18 +50,16 @@ fn place_sizes(used: &mut [u64], records: usize, count: usize, list: &mut [u64],
 {
     let mut r = 0;
     let mut s = 0;
-    let mut i = 0;
-    while i < n {
+    for i in 0..n {
         let l = list[i];
-        let Found::Here(spot) = place_one(used, records, count, l as usize, r, s) else {
+        let Some(spot) = place_one(used, records, count, l as usize, r, s) else {
             return i;
         };
         list[i] = l * SIZE + spot.record as u64 * RECORD + spot.start as u64;
         r = spot.record + 1;
         s = spot.first;
-        i += 1;
     }
-    i
+    n
 }
 
 // The first n words of the list undone, the last first.
@@ -75,9 +67,7 @@ fn undo(used: &mut [u64], records: usize, list: &[u64], n: usize)
     requires { Undoable records n list.now (length used.old * 64) }
     ensures { used.new ≡ undone_by records list.now n used.old }
 {
-    let mut i = n;
-    while 0 < i {
-        i -= 1;
+    for i in (0..n).rev() {
         let w = list[i];
         marks::clear_run(used, records + (w % RECORD) as usize, (w / SIZE) as usize);
         marks::clear(used, (w / RECORD % RECORD) as usize);
@@ -89,11 +79,7 @@ pub fn wipe(list: &mut [u64], n: usize)
     requires { n ≤ length list.old }
     ensures { list.new ≡ sets list.old 0 (replicate n 0) }
 {
-    let mut i = 0;
-    while i < n {
-        list[i] = 0;
-        i += 1;
-    }
+    list[..n].fill(0);
 }
 
 // Whether the first n sizes of the list have room. The map is left as it was, and those places of the list are zero.

@@ -1,6 +1,6 @@
 // What a build over rising keys needs, found without storing anything in the pools: how many nodes and slots, how deep, and the
 // L of each node in the order in which the nodes take their places.
-ghost use Rattle.std.specs.Prelude.{◌≡◌, ◌+◌, ◌^◌, ◌≤◌, max, length, set};
+ghost use Rattle.std.specs.Prelude.{◌≡◌, ◌+◌, ◌^◌, ◌≤◌, length, set};
 ghost use Rattle.laws.specs.Keys.{Rising};
 ghost use Rattle.model.specs.Choice.{most_keys};
 ghost use Rattle.build.specs.Counting.{Counts};
@@ -9,7 +9,7 @@ use crate::run_end;
 use model::model_of;
 
 // What a build takes: nodes, slots, and nodes on its longest path.
-#[derive(Clone, Copy)]
+#[derive(Clone, Copy, Debug, PartialEq, Eq)]
 pub struct Needs {
     pub nodes: usize,
     pub slots: usize,
@@ -20,20 +20,14 @@ pub struct Needs {
 fn put(list: &mut [u64], i: usize, v: u64)
     ensures { list.new ≡ set list.old i v }
 {
-    if list.len() <= i {
-        return;
+    if i < list.len() {
+        list[i] = v;
     }
-    list[i] = v;
-}
-
-fn larger(a: usize, b: usize) -> usize
-    ensures { result ≡ max a b }
-{
-    if a < b { b } else { a }
 }
 
 // What the tree over the keys, of at most `fuel` levels, takes. Each L goes into the list from place `at` on, as far as the list
-// goes: the node's own, then those of the children in slot order, each child over the part of the keys that share its slot.
+// goes: the node's own, then those of the children in slot order, each child over the part of the keys that share its slot. A
+// turn passes the keys of one slot, however many, which no range steps by.
 pub fn sizes(keys: &[u64], list: &mut [u64], at: usize, fuel: usize) -> Needs
     requires rising { Rising keys.now }
     requires keys_len_bound { length keys.now ≤ most_keys }
@@ -51,7 +45,7 @@ pub fn sizes(keys: &[u64], list: &mut [u64], at: usize, fuel: usize) -> Needs
     put(list, at, m.l);
     let mut nodes = 1;
     let mut slots = m.l as usize;
-    let mut below = 0;
+    let mut below = 0usize;
     let mut a = 0;
     while a < keys.len() {
         let b = run_end(keys, a, m);
@@ -59,7 +53,7 @@ pub fn sizes(keys: &[u64], list: &mut [u64], at: usize, fuel: usize) -> Needs
             let child = sizes(&keys[a..b], list, at + nodes, fuel - 1);
             nodes += child.nodes;
             slots += child.slots;
-            below = larger(below, child.depth);
+            below = below.max(child.depth);
         }
         a = b;
     }

@@ -1,17 +1,21 @@
--- Due nodes: the four conditions behind the test, and one node of the search along a path. Assumes nothing.
+-- Due nodes: the four conditions behind the test, and the search along a path. Assumes nothing.
 use mathlib.Core.Bool.{Bool, true, false}
 use mathlib.Core.List.{List, [], ◌∷◌}
-use mathlib.Core.Path.{◌≡◌}
+use mathlib.Core.Path.{◌≡◌, refl, ◌∙◌}
 use Prim.Native.Nat.{ℕ, suc, ◌+◌, ◌-◌, ◌*◌, ◌<◌, ◌≤◌}
 use native.Mathlib.Omega.{arith}
-use borrow.Author.Tests.{ltb-true, leb-true, le-leb}
+use borrow.Author.Tests.{ltb-true, ltb-false, leb-true, le-leb}
 use lib.Dec.{ltb, leb}
 use lib.ListN.{length, get_or, take, length-take}
-use lib.Seq.{slice, slice-cons, slice_empty}
-use Rattle.laws.proofs.Tests.{and_both, fails, pick_in}
-use Rattle.laws.specs.Pick.{pick}
+use Rattle.std.specs.List.{position_or_len, position}
+use Rattle.std.specs.Option.{unwrap_or}
+use Rattle.std.specs.Prelude.{Option}
+use Rattle.std.proofs.lemmas.List.{get_or_default, get_or-take}
+use Rattle.walk.specs.declared.Path.{Path}
+use Rattle.pool.specs.Memory.{records_in}
+use Rattle.laws.proofs.Tests.{and_both, both, fails, pick_in}
 use Rattle.model.specs.Slots.{most_slots}
-use Rattle.counters.specs.Counters.{least_due, is_due, due_node, due_in}
+use Rattle.counters.specs.Counters.{least_due, is_due, due_node, due_in, OnPath}
 
 -- the four conditions of a due node
 pub record Due (elements built conflicts l : ℕ) : Type 0 where
@@ -37,29 +41,14 @@ module _ (e b c l : ℕ) where
   unfolding is_due
   due_by_slots many grown crowded = rw (le-leb least_due e many, le-leb (2 * b) e grown, le-leb (e - b) (10 * c) crowded)
 
--- the search along the first n of ps, as the loop goes: what is found from place i on is what is found in the whole
-module _ (ns : List ℕ) (conflict : Bool) (ps : List ℕ) (n i : ℕ) (inv : i + due_in ns conflict (slice i n ps) ≡ due_in ns conflict (take n ps)) where
-  module _ (lt : i < n) (fits : n ≤ length ps) where
-    one-node : i + pick (due_node ns conflict (get_or ps i 0)) 0 (1 + due_in ns conflict (slice (suc i) n ps)) ≡ due_in ns conflict (take n ps)
-    unfolding due_in
-    one-node = rw (slice-cons i n ps 0 lt fits) at inv
-
-    pub due-here : true ≡ due_node ns conflict (get_or ps i 0) → i ≡ due_in ns conflict (take n ps)
-    due-here e = let h = rw (← e) at one-node in omega arith
-
-    pub due_later : false ≡ due_node ns conflict (get_or ps i 0) → (i + 1) + due_in ns conflict (slice (i + 1) n ps) ≡ due_in ns conflict (take n ps)
-    due_later e =
-        let h = rw (← e) at one-node in
-        let s : suc i ≡ i + 1 = omega arith in
-        rw (← s) (omega arith)
-
-  pub due_nowhere : n ≤ i → i ≤ n → i ≡ due_in ns conflict (take n ps)
-  unfolding due_in
-  due_nowhere a b =
-      let s : i ≡ n = omega arith in
-      let h : n + due_in ns conflict (slice n n ps) ≡ due_in ns conflict (take n ps) = rw s at inv in
-      let f = rw (slice_empty n ps) at h in
-      omega arith
+-- the place found is that of the first due node
+pub due_first : (ns : List ℕ) (conflict : Bool) (p : List ℕ) → position_or_len (due_node ns conflict) p ≡ due_in ns conflict p
+unfolding due_in
+due_first ns conflict [] = refl
+due_first ns conflict (r ∷ p) =
+    both (due_node ns conflict r)
+    (λ e. rw e)
+    (λ e. rw (e, due_first ns conflict p) (omega arith))
 
 -- the place found is one of the path's, or its length
 pub due_within : (ns : List ℕ) (conflict : Bool) (p : List ℕ) → due_in ns conflict p ≤ length p
@@ -71,3 +60,20 @@ due_within ns conflict (r ∷ p) =
 
 pub due_among : (ns : List ℕ) (conflict : Bool) (ps : List ℕ) (n : ℕ) → due_in ns conflict (take n ps) ≤ n
 due_among ns conflict ps n = omega (arith, due_within ns conflict (take n ps), length-take n ps)
+
+-- what `position` finds, or the path's length where it finds none
+pub due_found : (ns : List ℕ) (conflict : Bool) (p : List ℕ) (n : ℕ) (r : Option ℕ) → length p ≡ n → r ≡ position (due_node ns conflict) p
+    → unwrap_or r n ≡ due_in ns conflict p
+due_found ns conflict p n r long e =
+    let d : due_in ns conflict p ≤ length p = due_within ns conflict p in
+    both (ltb (due_in ns conflict p) (length p))
+    (λ t. rw (e, due_first ns conflict p, t))
+    (λ t. rw (e, due_first ns conflict p, t) (omega (arith, ltb-false (due_in ns conflict p) (length p) t)))
+
+-- each record of a path is the pool's
+pub due_inside : (ns : List ℕ) (p : Path) → OnPath ns p → (k x : ℕ) → k < length (take p.len p.nodes) → x ≡ get_or (take p.len p.nodes) k x
+    → x < records_in ns
+due_inside ns p on k x h e =
+    let short : k < p.len = omega (arith, length-take p.len p.nodes) in
+    let r : x ≡ get_or p.nodes k 0 = e ∙ get_or_default (take p.len p.nodes) k x 0 h ∙ get_or-take p.len p.nodes k 0 short in
+    rw r (on.within k short)

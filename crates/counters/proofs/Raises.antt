@@ -1,12 +1,12 @@
--- Raising the counters of a path: which words it leaves, so that every record reads as before, and one node of the loop. Assumes
+-- Raising the counters of a path: which words it leaves, and that every record reads as before. Assumes
 -- nothing.
 use mathlib.Core.Bool.{Bool, true, false}
 use mathlib.Core.List.{List, [], ◌∷◌}
 use mathlib.Core.Path.{◌≡◌, refl, ◌∙◌}
-use Prim.Native.Nat.{ℕ, suc, ◌+◌, ◌*◌, ◌<◌, ◌≤◌}
+use Prim.Native.Nat.{ℕ, ◌+◌, ◌*◌, ◌<◌, ◌≤◌}
 use native.Mathlib.Omega.{arith}
 use lib.ListN.{length, get_or, set, length-set}
-use lib.Seq.{slice, slice-cons, slice_empty, get_or-set_other}
+use lib.Seq.{get_or-set_other}
 use Rattle.marks.proofs.Marks.{store_words}
 use Rattle.pool.proofs.AfterStores.{node-same}
 use Rattle.pool.proofs.Sets.{Words}
@@ -30,10 +30,6 @@ module _ (P : List ℕ → Type 0) (kept : (ns : List ℕ) (r x : ℕ) → P ns 
   unfolding raise
   raise-keeps ns conflict [] h = h
   raise-keeps ns conflict (r ∷ p) h = raise-keeps (raise_node ns conflict r) conflict p (raise_node-keeps ns conflict r h)
-
-pub length-raise_node : (ns : List ℕ) (conflict : Bool) (r : ℕ) → length (raise_node ns conflict r) ≡ length ns
-length-raise_node ns conflict r =
-    raise_node-keeps (λ (ms : List ℕ). length ms ≡ length ns) (λ ms q x h. simp length-set h) (λ ms q x h. simp length-set h) ns conflict r refl
 
 pub length-raise : (ns : List ℕ) (conflict : Bool) (p : List ℕ) → length (raise ns conflict p) ≡ length ns
 length-raise ns conflict p =
@@ -76,18 +72,3 @@ module _ (ns : List ℕ) (conflict : Bool) (r elements : ℕ) (one : elements �
       → set (set ns (elements_word r) elements) (conflicts_word r) conflicts ≡ raise_node ns conflict r
   unfolding raise_node raise_elements raise_conflicts
   raise_both_stored conflicts two e = rw (e, two, one)
-
--- the loop: what is left to raise from place i on is the whole
-module _ (ns : List ℕ) (conflict : Bool) (ps : List ℕ) (n i : ℕ) (whole : List ℕ) (inv : raise ns conflict (slice i n ps) ≡ whole) where
-  pub raise-one : i < n → n ≤ length ps → raise (raise_node ns conflict (get_or ps i 0)) conflict (slice (i + 1) n ps) ≡ whole
-  unfolding raise
-  raise-one lt fits =
-      let s : i + 1 ≡ suc i = omega arith in
-      rw s (rw (slice-cons i n ps 0 lt fits) at inv)
-
-  pub raise-done : n ≤ i → i ≤ n → ns ≡ whole
-  unfolding raise
-  raise-done a b =
-      let s : i ≡ n = omega arith in
-      let h : raise ns conflict (slice n n ps) ≡ whole = rw s at inv in
-      rw (slice_empty n ps) at h

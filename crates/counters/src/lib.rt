@@ -30,10 +30,7 @@ impl Counters {
 fn one_more(x: u64) -> u64
     ensures { result ≡ one_more x }
 {
-    if x < Counters::STOP {
-        return x + 1;
-    }
-    Counters::STOP
+    x.min(Counters::STOP - 1) + 1
 }
 
 fn raised_if(conflict: bool, x: u64) -> u64
@@ -85,15 +82,10 @@ pub fn due_at(nodes: &[u64], path: Path, conflict: bool) -> usize
     requires { OnPath nodes.now path }
     ensures { result ≡ due_in nodes.now conflict (take path.len path.nodes) }
 {
-    let mut place = 0;
-    while place < path.len {
-        let r = path.nodes[place];
-        if due_node(nodes, r, conflict) {
-            return place;
-        }
-        place += 1;
-    }
-    place
+    path.nodes[..path.len]
+        .iter()
+        .position(|r| due_node(nodes, *r, conflict))
+        .unwrap_or(path.len)
 }
 
 fn raise_node(nodes: &mut [u64], r: usize, conflict: bool)
@@ -114,10 +106,7 @@ pub fn raise(nodes: &mut [u64], path: Path, n: usize, conflict: bool)
     requires on_path { OnPath nodes.old path }
     ensures { nodes.new ≡ raise nodes.old conflict (take n path.nodes) }
 {
-    let mut i = 0;
-    while i < n {
-        let r = path.nodes[i];
-        raise_node(nodes, r, conflict);
-        i += 1;
+    for r in &path.nodes[..n] {
+        raise_node(nodes, *r, conflict);
     }
 }

@@ -16,7 +16,7 @@ use Rattle.marks.proofs.Marks.{bit_at, used-one, unused_zero, same-used-bit, mar
 use Rattle.marks.proofs.Lowest.{first_unused_at, lowest_run_finds}
 use Rattle.marks.proofs.Runs.{mark_run-length, mark_run-words, mark_run_in, mark_run-out, free_run_at}
 use Rattle.marks.specs.Used.{used_at, mark_at, mark_run}
-use Rattle.marks.specs.declared.Run.TheVariants.{At}
+use Rattle.std.proofs.Common.{Some}
 use Rattle.pool.proofs.RecordStores.{length-put_node, put_node-other}
 use Rattle.pool.proofs.RunStores.{length-zero_run, zero_run-inside, zero_run_outside}
 use Rattle.pool.proofs.Sets.{sets_within}
@@ -276,7 +276,7 @@ module _ (R S : ℕ) (m : Mem) (f : Fine R S m) (r lo w s l count : ℕ) (z : Fr
       (sized_as R S m new_node f.sized long-nodes long-slots long-used) words-used place_law
 
 -- the places that a build finds are free
-pub found_free : (R S : ℕ) (m : Mem) → Fine R S m → (s l : ℕ) → lowest_record m < records_in m.nodes → lowest_slots m l ≡ At s → Free R S m (lowest_record m) s l
+pub found_free : (R S : ℕ) (m : Mem) → Fine R S m → (s l : ℕ) → lowest_record m < records_in m.nodes → lowest_slots m l ≡ Some s → Free R S m (lowest_record m) s l
 unfolding lowest_record lowest_slots
 found_free R S m f s l h e =
     let rs = records-are R S m f.sized in

@@ -11,8 +11,7 @@ use Rattle.build.specs.Sizes.{of_group, depth_under, depth_of}
 use Rattle.laws.proofs.Tests.{both}
 use Rattle.laws.specs.Keys.{Rising}
 use Rattle.marks.specs.Used.{first_unused, lowest_run, mark_at, mark_run}
-use Rattle.marks.specs.declared.Run.{Run}
-use Rattle.marks.specs.declared.Run.TheVariants.{At, Nowhere}
+use Rattle.std.proofs.Common.{None, Option, Some}
 use Rattle.model.specs.Choice.{model_of}
 use Rattle.model.specs.Groups.{keys_to}
 use Rattle.model.specs.Height.{height}
@@ -52,10 +51,10 @@ node-deep : (h : Head) (w : Row) (x : ℕ) → RowDeep x w → DeepAs (1 + x) (n
 node-deep h (are g u) x e = rw e (omega arith)
 node-deep h no_room_row x e = tt
 
-on_deep : (G : Grower) (D : List ℕ → ℕ) → ((u ks ps : List ℕ) → DeepAs (D ks) (G u ks ps)) → (R r : ℕ) (run : Run) (u ks ps : List ℕ) → DeepAs (1 + depth_under D (model_of ks) (model_of ks).l 0 ks) (grow_on G R r (model_of ks) run u ks ps)
+on_deep : (G : Grower) (D : List ℕ → ℕ) → ((u ks ps : List ℕ) → DeepAs (D ks) (G u ks ps)) → (R r : ℕ) (run : Option ℕ) (u ks ps : List ℕ) → DeepAs (1 + depth_under D (model_of ks) (model_of ks).l 0 ks) (grow_on G R r (model_of ks) run u ks ps)
 unfolding grow_on
-on_deep G D ih R r Nowhere u ks ps = tt
-on_deep G D ih R r (At s) u ks ps =
+on_deep G D ih R r None u ks ps = tt
+on_deep G D ih R r (Some s) u ks ps =
     node-deep (fresh_head r (model_of ks) s (length ks)) (grow_slots G (model_of ks) (model_of ks).l 0 (mark_run (mark_at u r) (R + s) (model_of ks).l) ks ps) (depth_under D (model_of ks) (model_of ks).l 0 ks)
     (slots-deep G D ih (model_of ks) (model_of ks).l 0 (mark_run (mark_at u r) (R + s) (model_of ks).l) ks ps)
 

@@ -14,8 +14,7 @@ use Rattle.build.specs.Building.{Out, out, and_then, Builder, with_slots, lowest
 use Rattle.laws.proofs.Tests.{both}
 use Rattle.laws.specs.Keys.{Rising}
 use Rattle.marks.specs.Used.{first_unused, lowest_run, mark_at, mark_run}
-use Rattle.marks.specs.declared.Run.{Run}
-use Rattle.marks.specs.declared.Run.TheVariants.{At as RunAt, Nowhere}
+use Rattle.std.proofs.Common.{None, Option, Some}
 use Rattle.model.proofs.Groups.{group_rising}
 use Rattle.model.proofs.Least.{chosen-in_range}
 use Rattle.model.proofs.Slots.{slot_under}
@@ -239,10 +238,10 @@ module _ (R S n : ℕ) (B : Builder) (G : Grower) (ih : Grows R S n B G) (m : Me
     },
   )
 
-  node_agrees : (r : ℕ) (run : Run) → ((s : ℕ) → run ≡ RunAt s → Free R S m r s md.l) → Agrees R S (suc n) m (bulkload ks ps) (grow_on G R r md run m.used ks ps) (node_on B r md run ks ps m)
+  node_agrees : (r : ℕ) (run : Option ℕ) → ((s : ℕ) → run ≡ Some s → Free R S m r s md.l) → Agrees R S (suc n) m (bulkload ks ps) (grow_on G R r md run m.used ks ps) (node_on B r md run ks ps m)
   unfolding grow_on node_on
-  node_agrees r Nowhere z = refl
-  node_agrees r (RunAt s) z =
+  node_agrees r None z = refl
+  node_agrees r (Some s) z =
       let f = z s refl in
       let m1 : Mem = place_node m r (record { model = md; start = s }) (length ks) in
       let a : Added R S m m1 (λ y φ. in_b R φ y (sub (fresh_head r md s (length ks)) (nulls md.l))) = place_added R S m fine r md.lo md.w s md.l (length ks) f in

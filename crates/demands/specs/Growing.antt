@@ -1,12 +1,10 @@
 -- The placed tree that document 01 describes over rising keys ("From key to slot", "Where nodes go"), without memory: only the map of
 -- used places is looked at. "A node takes the lowest unused record and the lowest start at which L consecutive slots are unused. Parent
 -- before children, children in slot order, each child with its whole subtree before the next child." Definitions only.
-use Rattle.std.specs.Prelude.{List, [], ◌∷◌, ℕ, zero, suc, ◌+◌, ltb, length, get_or}
+use Rattle.std.specs.Prelude.{None, Option, Some, List, [], ◌∷◌, ℕ, zero, suc, ◌+◌, ltb, length, get_or}
 use Rattle.build.specs.Building.{payloads_to}
 use Rattle.laws.specs.Pick.{pick}
 use Rattle.marks.specs.Used.{mark_at, mark_run, first_unused, lowest_run}
-use Rattle.marks.specs.declared.Run.{Run}
-use Rattle.marks.specs.declared.Run.TheVariants.{At, Nowhere}
 use Rattle.model.specs.Choice.{model_of}
 use Rattle.model.specs.Groups.{keys_to}
 use Rattle.model.specs.declared.Model.{Model}
@@ -55,9 +53,9 @@ grow_slots G md zero s u ks ps = are nil u
 grow_slots G md (suc n) s u ks ps = then_row (grow_slot G u (keys_to md s ks) (payloads_to md s ks ps)) (λ u'. grow_slots G md n (s + 1) u' ks ps)
 
 -- a node on the run found, at record r
-unfoldable pub grow_on : Grower → ℕ → ℕ → Model → Run → Grower
-grow_on G R r md Nowhere u ks ps = no_room
-grow_on G R r md (At s) u ks ps =
+unfoldable pub grow_on : Grower → ℕ → ℕ → Model → Option ℕ → Grower
+grow_on G R r md None u ks ps = no_room
+grow_on G R r md (Some s) u ks ps =
     node_over (fresh_head r md s (length ks)) (grow_slots G md md.l 0 (mark_run (mark_at u r) (R + s) md.l) ks ps)
 
 -- a node over the keys, in R records and S slots; its children by G

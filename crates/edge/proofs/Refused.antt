@@ -33,7 +33,7 @@ number_in : {a : Answer ℕ} (e : Refusal) → refusal e ≡ a → (refusal e).n
 number_in e h = ap (λ (x : Answer ℕ). x.number) h
 
 pub slot_refused : (e : Refusal) (k : ℕ) (m : Model) → refusal e ≡ slot_choice k m → record { number = number_of e; slot = 0 } ≡ pass_slot (slot_choice k m)
-unfolding pass_slot refusal
+unfolding pass_slot
 slot_refused (NotRising p) k m h = absurd (eqb-false _ _ (slot_tells_none k m).0 (sym (number_in (NotRising p) h)))
 slot_refused (NotHeld v) k m h = absurd (eqb-false _ _ (slot_tells_none k m).1 (sym (number_in (NotHeld v) h)))
 slot_refused WrongSizes k m h = ap pass_slot h
@@ -47,7 +47,7 @@ slot_refused Damage k m h = ap pass_slot h
 -- r is the place of a refusal that tells one, and 0 of any other
 pub model_refused : (e : Refusal) (bs : List ℕ) (r : ℕ) → refusal e ≡ model_choice bs → ((p : ℕ) → e ≡ NotRising p → r ≡ p) → (((p : ℕ) → e ≢ NotRising p) → r ≡ 0)
     → record { number = number_of e; place = r; l = 0; t = 0; lo = 0; w = 0 } ≡ pass_model (model_choice bs)
-unfolding pass_model refusal
+unfolding pass_model
 model_refused (NotRising p) bs r h place none = rw (place p refl) (ap pass_model h)
 model_refused (NotHeld v) bs r h place none = absurd (eqb-false _ _ (model_tells_no_visits bs) (sym (number_in (NotHeld v) h)))
 model_refused WrongSizes bs r h place none = rw (none (λ p q. cc)) (ap pass_model h)

@@ -6,11 +6,10 @@ use mathlib.Core.Logic.{⊎_elim}
 use mathlib.Core.Path.{◌≡◌, refl, sym, subst, ◌∙◌}
 use Prim.Native.Nat.{ℕ, zero, suc, ◌+◌, ◌-◌, ◌<◌, ◌≤◌}
 use native.Mathlib.Omega.{arith}
+use Rattle.std.specs.Prelude.{Option, None, Some}
 use Rattle.laws.proofs.Tests.{both, le_or_lt, true_not_false}
 use Rattle.marks.specs.Used.{used_at, free_run, first_from, first_unused, lowest_from, lowest_run}
-use Rattle.marks.specs.declared.Run.{Run}
-use Rattle.marks.specs.declared.Run.TheVariants.{At, Nowhere}
-use Rattle.marks.proofs.Runs.{here_or_after}
+use Rattle.marks.proofs.Runs.{here_or_after, free_run_not}
 
 -- of the f places from a on
 first_from_at : (u : List ℕ) (from f a : ℕ)
@@ -54,14 +53,14 @@ first_unused_is u from n s h f e =
     (le_or_lt s (first_unused u from n))
 
 -- of the f starts from a on
-lowest_from_finds : (u : List ℕ) (from l f a s : ℕ) → lowest_from u from l f a ≡ At s
+lowest_from_finds : (u : List ℕ) (from l f a s : ℕ) → lowest_from u from l f a ≡ Some s
     → (s < a + f) × (free_run u (from + s) l ≡ true) × ((j : ℕ) → a ≤ j → j < s → free_run u (from + j) l ≡ false)
 unfolding lowest_from
 lowest_from_finds u from l zero a s e = let z : ◌≡◌ {A = ℕ} 0 1 = cc in absurd (omega arith)
 lowest_from_finds u from l (suc f) a s e =
     both (free_run u (from + a) l)
     (λ t.
-    let d : At a ≡ At s = rw t at e in
+    let d : Some a ≡ Some s = rw t at e in
     let q : a ≡ s = cc in
     (omega arith, subst (λ (x : ℕ). free_run u (from + x) l ≡ true) q t, (λ j h k. absurd (omega arith))))
     (λ t.
@@ -71,14 +70,14 @@ lowest_from_finds u from l (suc f) a s e =
       (λ j h k. here_or_after (λ (x : ℕ). free_run u (from + x) l ≡ false) h t (λ m. ih.2 j (omega arith) k)),
     ))
 
-lowest_from-none : (u : List ℕ) (from l f a : ℕ) → lowest_from u from l f a ≡ Nowhere
+lowest_from-none : (u : List ℕ) (from l f a : ℕ) → lowest_from u from l f a ≡ None
     → (j : ℕ) → a ≤ j → j < a + f → free_run u (from + j) l ≡ false
 unfolding lowest_from
 lowest_from-none u from l zero a e j h k = absurd (omega arith)
 lowest_from-none u from l (suc f) a e j h k =
     both (free_run u (from + a) l)
     (λ t.
-    let d : At a ≡ Nowhere = rw t at e in
+    let d : Some a ≡ None = rw t at e in
     let z : ◌≡◌ {A = ℕ} 0 1 = cc in
     absurd (omega arith))
     (λ t.
@@ -87,21 +86,21 @@ lowest_from-none u from l (suc f) a e j h k =
 
 module _ (u : List ℕ) (from n l : ℕ) where
   -- the run found is the lowest; none is found only where there is none
-  pub lowest_run_finds : (s : ℕ) → lowest_run u from n l ≡ At s
+  pub lowest_run_finds : (s : ℕ) → lowest_run u from n l ≡ Some s
       → (s + l ≤ n) × (free_run u (from + s) l ≡ true) × ((j : ℕ) → j < s → free_run u (from + j) l ≡ false)
   unfolding lowest_run
   lowest_run_finds s e =
       let h = lowest_from_finds u from l (n + 1 - l) 0 s e in
       (omega (arith, h.0), h.1, (λ j k. h.2 j (omega arith) k))
 
-  pub lowest_run-none : lowest_run u from n l ≡ Nowhere → (j : ℕ) → j + l ≤ n → free_run u (from + j) l ≡ false
+  pub lowest_run-none : lowest_run u from n l ≡ None → (j : ℕ) → j + l ≤ n → free_run u (from + j) l ≡ false
   unfolding lowest_run
   lowest_run-none e j h = lowest_from-none u from l (n + 1 - l) 0 e j (omega arith) (omega arith)
 
   -- and this determines it
   here_of : (s : ℕ) → s + l ≤ n → free_run u (from + s) l ≡ true → ((j : ℕ) → j < s → free_run u (from + j) l ≡ false)
-      → (w : Run) → lowest_run u from n l ≡ w → w ≡ At s
-  here_of s h e g (At t) d =
+      → (w : Option ℕ) → lowest_run u from n l ≡ w → w ≡ Some s
+  here_of s h e g (Some t) d =
       let r = lowest_run_finds t d in
       ⊎_elim
       (λ a.
@@ -111,15 +110,21 @@ module _ (u : List ℕ) (from n l : ℕ) where
       (le_or_lt t s))
       (λ a. absurd (true_not_false (sym r.1 ∙ g t a)))
       (le_or_lt s t)
-  here_of s h e g Nowhere d = absurd (true_not_false (sym e ∙ lowest_run-none d s h))
+  here_of s h e g None d = absurd (true_not_false (sym e ∙ lowest_run-none d s h))
 
-  nowhere_of : ((j : ℕ) → j + l ≤ n → free_run u (from + j) l ≡ false) → (w : Run) → lowest_run u from n l ≡ w → w ≡ Nowhere
-  nowhere_of g (At t) d = let r = lowest_run_finds t d in absurd (true_not_false (sym r.1 ∙ g t r.0))
-  nowhere_of g Nowhere d = refl
+  nowhere_of : ((j : ℕ) → j + l ≤ n → free_run u (from + j) l ≡ false) → (w : Option ℕ) → lowest_run u from n l ≡ w → w ≡ None
+  nowhere_of g (Some t) d = let r = lowest_run_finds t d in absurd (true_not_false (sym r.1 ∙ g t r.0))
+  nowhere_of g None d = refl
 
   pub lowest_run_here : (s : ℕ) → s + l ≤ n → free_run u (from + s) l ≡ true → ((j : ℕ) → j < s → free_run u (from + j) l ≡ false)
-      → lowest_run u from n l ≡ At s
+      → lowest_run u from n l ≡ Some s
   lowest_run_here s h e g = here_of s h e g (lowest_run u from n l) refl
 
-  pub lowest_run-nowhere : ((j : ℕ) → j + l ≤ n → free_run u (from + j) l ≡ false) → lowest_run u from n l ≡ Nowhere
+  pub lowest_run-nowhere : ((j : ℕ) → j + l ≤ n → free_run u (from + j) l ≡ false) → lowest_run u from n l ≡ None
   lowest_run-nowhere g = nowhere_of g (lowest_run u from n l) refl
+
+  -- where every place is used there is no run
+  pub lowest_run-full : 1 ≤ l → n ≤ first_unused u from n → lowest_run u from n l ≡ None
+  lowest_run-full h e =
+      let all = (first_unused_at u from n (first_unused u from n) refl).1 in
+      lowest_run-nowhere (λ j k. free_run_not u (from + j) l (from + j) (omega arith) (omega arith) (all j (omega arith)))

@@ -8,7 +8,8 @@ use Prim.Native.Nat.{ℕ, ◌+◌, ◌*◌, ◌-◌, ◌<◌, ◌≤◌, ◌/◌
 use native.Mathlib.Omega.{arith}
 use lib.ListN.{length, get_or, set}
 use Rattle.laws.proofs.Tests.{both, le_or_lt}
-use Rattle.marks.specs.Used.{used_at, mark_at, clear_at, mark_run, clear_run, free_run, full_run}
+use Rattle.laws.specs.Pick.{pick}
+use Rattle.marks.specs.Used.{used_at, mark_run, clear_run, set_place, set_run, free_run, full_run}
 use Rattle.marks.proofs.Marks.{Words}
 use Rattle.marks.proofs.Runs.{
   free_run_at,
@@ -52,40 +53,25 @@ pub full-words_each : (u : List ℕ) (p r : ℕ) → p % 64 ≡ 0 → get_or u (
 full-words_each u p r z e f q a l =
     ⊎_elim (λ m. f q (omega arith) (omega arith)) (λ m. full-word_each u p z e q a m) (le_or_lt (p + 64) q)
 
--- marking and clearing the places from q up to e
-pub mark-start : (u : List ℕ) (p n : ℕ) → mark_run u p (p + n - p) ≡ mark_run u p n
-mark-start u p n = let d : p + n - p ≡ n = omega arith in rw d
+-- making the places from q up to e used, or unused
+pub set-next : (b : Bool) (u : List ℕ) (q e : ℕ) → q < e → set_run b (set_place b u q) (q + 1) (e - (q + 1)) ≡ set_run b u q (e - q)
+unfolding mark_run clear_run
+set-next true u q e h = let d : e - q ≡ 1 + (e - (q + 1)) = omega arith in rw (d, mark_run_split u q 1 (e - (q + 1)))
+set-next false u q e h = let d : e - q ≡ 1 + (e - (q + 1)) = omega arith in rw (d, clear_run_split u q 1 (e - (q + 1)))
 
-pub clear-start : (u : List ℕ) (p n : ℕ) → clear_run u p (p + n - p) ≡ clear_run u p n
-clear-start u p n = let d : p + n - p ≡ n = omega arith in rw d
-
-pub mark-next : (u : List ℕ) (q e : ℕ) → q < e → mark_run (mark_at u q) (q + 1) (e - (q + 1)) ≡ mark_run u q (e - q)
-unfolding mark_run
-mark-next u q e h = let d : e - q ≡ 1 + (e - (q + 1)) = omega arith in rw (d, mark_run_split u q 1 (e - (q + 1)))
-
-pub clear_next : (u : List ℕ) (q e : ℕ) → q < e → clear_run (clear_at u q) (q + 1) (e - (q + 1)) ≡ clear_run u q (e - q)
-unfolding clear_run
-clear_next u q e h = let d : e - q ≡ 1 + (e - (q + 1)) = omega arith in rw (d, clear_run_split u q 1 (e - (q + 1)))
-
-pub mark-next-word : (u : List ℕ) (q e : ℕ) → q % 64 ≡ 0 → 64 ≤ e - q → q / 64 < length u → Words u
-    → mark_run (set u (q / 64) (2 ^ 64 - 1)) (q + 64) (e - (q + 64)) ≡ mark_run u q (e - q)
-mark-next-word u q e z h k w =
+pub set-next-word : (b : Bool) (u : List ℕ) (q e y : ℕ) → q % 64 ≡ 0 → 64 ≤ e - q → q / 64 < length u → Words u → y ≡ pick b (2 ^ 64 - 1) 0
+    → set_run b (set u (q / 64) y) (q + 64) (e - (q + 64)) ≡ set_run b u q (e - q)
+set-next-word true u q e y z h k w i =
     let d : e - q ≡ 64 + (e - (q + 64)) = omega arith in
-    rw (d, mark_run_split u q 64 (e - (q + 64)), mark-word u q z k w)
-
-pub clear-next-word : (u : List ℕ) (q e : ℕ) → q % 64 ≡ 0 → 64 ≤ e - q → q / 64 < length u → Words u
-    → clear_run (set u (q / 64) 0) (q + 64) (e - (q + 64)) ≡ clear_run u q (e - q)
-clear-next-word u q e z h k w =
+    rw (i, d, mark_run_split u q 64 (e - (q + 64)), mark-word u q z k w)
+set-next-word false u q e y z h k w i =
     let d : e - q ≡ 64 + (e - (q + 64)) = omega arith in
-    rw (d, clear_run_split u q 64 (e - (q + 64)), clear-word u q z k w)
+    rw (i, d, clear_run_split u q 64 (e - (q + 64)), clear-word u q z k w)
 
-pub mark-end : (u : List ℕ) (q e : ℕ) → e ≤ q → u ≡ mark_run u q (e - q)
-unfolding mark_run
-mark-end u q e h = let d : e - q ≡ 0 = omega arith in rw d
-
-pub clear-end : (u : List ℕ) (q e : ℕ) → e ≤ q → u ≡ clear_run u q (e - q)
-unfolding clear_run
-clear-end u q e h = let d : e - q ≡ 0 = omega arith in rw d
+pub set-end : (b : Bool) (u : List ℕ) (q e : ℕ) → e ≤ q → u ≡ set_run b u q (e - q)
+unfolding mark_run clear_run
+set-end true u q e h = let d : e - q ≡ 0 = omega arith in rw d
+set-end false u q e h = let d : e - q ≡ 0 = omega arith in rw d
 
 -- two tests that hold together are the same
 tests_agree : (b c : Bool) → (b ≡ true → c ≡ true) → (c ≡ true → b ≡ true) → b ≡ c
@@ -112,9 +98,6 @@ full_not_word u q e z h w n =
 
 pub full_not_here : (u : List ℕ) (q e : ℕ) → q < e → used_at u q ≡ false → false ≡ full_run u q (e - q)
 full_not_here u q e h t = sym (full_run_not u q (e - q) q (omega arith) (omega arith) t)
-
-pub full_start : (u : List ℕ) (p n : ℕ) → full_run u p (p + n - p) ≡ full_run u p n
-full_start u p n = let d : p + n - p ≡ n = omega arith in rw d
 
 pub full-end : (u : List ℕ) (q e : ℕ) → e ≤ q → true ≡ full_run u q (e - q)
 full-end u q e h = sym (full_run_is u q (e - q) (λ x a l. absurd (omega arith)))

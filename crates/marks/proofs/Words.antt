@@ -58,9 +58,6 @@ power_within x i h =
     let b : 1 * 2 ^ i ≤ x / 2 ^ i * 2 ^ i = mul-le-mul_right (2 ^ i) a in
     omega (arith, split x i)
 
-pub shifted_within : (x i : ℕ) → i < 64 → x / 2 ^ i % 2 ≡ 1 → 1 * 2 ^ i % 2 ^ 64 ≤ x
-shifted_within x i l h = rw (shl_one i l) (power_within x i h)
-
 -- a word less a bit that is set
 pub taken_same : (x i : ℕ) → x / 2 ^ i % 2 ≡ 1 → (x - 2 ^ i) / 2 ^ i % 2 ≡ 0
 taken_same x i h =

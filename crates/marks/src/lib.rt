@@ -1,19 +1,13 @@
 // The map of used places: test, mark, clear, and the search for the lowest unused place or run. A place is a bit, 64 places
-// a word, lowest bit first. Where 64 places from a word's start lie within what is asked, the word is taken at once.
+// a word, lowest bit first. Where 64 places from a word's start lie within what is asked, the word is taken at once. So a turn of
+// each `while` here passes one place or 64, which no range steps by.
 #![tactic(auto)]
 
-ghost use Rattle.std.specs.Prelude.{◌≡◌, true, ℕ, ◌+◌, ◌*◌, ◌<◌, ◌≤◌, ◌^◌, length};
-ghost use Rattle.marks.specs.Used.{used_at, mark_at, clear_at, mark_run, clear_run, full_run, first_unused, lowest_run};
+ghost use Rattle.std.specs.Prelude.{◌≡◌, true, ℕ, ◌+◌, ◌*◌, ◌<◌, ◌≤◌, ◌^◌, length, SomeIff};
+ghost use Rattle.marks.specs.Used.{used_at, mark_at, clear_at, mark_run, clear_run, set_place, set_run, full_run, first_unused, lowest_run};
 
 // a word whose 64 places are used
 const FULL: u64 = 18446744073709551615;
-
-// the start of a run, counted from the first place searched; or there is none
-#[derive(Clone, Copy)]
-pub enum Run {
-    At(usize),
-    Nowhere,
-}
 
 // is place p used; past the map's end nothing is
 pub fn is_used(used: &[u64], p: usize) -> bool
@@ -31,8 +25,7 @@ pub fn mark(used: &mut [u64], p: usize)
     requires { p < length used.old * 64 }
     ensures { used.new ≡ mark_at used.old p }
 {
-    let k = p / 64;
-    used[k] = used[k] | (1 << (p % 64));
+    used[p / 64] |= 1 << (p % 64);
 }
 
 pub fn clear(used: &mut [u64], p: usize)
@@ -46,38 +39,49 @@ pub fn clear(used: &mut [u64], p: usize)
     }
 }
 
-pub fn mark_run(used: &mut [u64], p: usize, n: usize)
-    requires { (p + n ≤ length used.old * 64) × (p + n < 2 ^ 63) }
-    ensures { used.new ≡ mark_run used.old p n }
+// place p used, or unused
+fn set_place<const USED: bool>(used: &mut [u64], p: usize)
+    requires { p < length used.old * 64 }
+    ensures { used.new ≡ set_place USED used.old p }
 {
+    if USED {
+        mark(used, p);
+    } else {
+        clear(used, p);
+    }
+}
+
+// the n places from p on used, or unused; a whole word in one store
+fn set_run<const USED: bool>(used: &mut [u64], p: usize, n: usize)
+    requires { (p + n ≤ length used.old * 64) × (p + n < 2 ^ 63) }
+    ensures { used.new ≡ set_run USED used.old p n }
+{
+    let word = if USED { FULL } else { 0 };
     let end = p + n;
     let mut q = p;
     while q < end {
         if q % 64 == 0 && 64 <= end - q {
-            used[q / 64] = FULL;
+            used[q / 64] = word;
             q += 64;
         } else {
-            mark(used, q);
+            set_place::<USED>(used, q);
             q += 1;
         }
     }
+}
+
+pub fn mark_run(used: &mut [u64], p: usize, n: usize)
+    requires { (p + n ≤ length used.old * 64) × (p + n < 2 ^ 63) }
+    ensures { used.new ≡ mark_run used.old p n }
+{
+    set_run::<true>(used, p, n);
 }
 
 pub fn clear_run(used: &mut [u64], p: usize, n: usize)
     requires { (p + n ≤ length used.old * 64) × (p + n < 2 ^ 63) }
     ensures { used.new ≡ clear_run used.old p n }
 {
-    let end = p + n;
-    let mut q = p;
-    while q < end {
-        if q % 64 == 0 && 64 <= end - q {
-            used[q / 64] = 0;
-            q += 64;
-        } else {
-            clear(used, q);
-            q += 1;
-        }
-    }
+    set_run::<false>(used, p, n);
 }
 
 // are the n places from p on all used; the run may lie past the map's end
@@ -108,20 +112,18 @@ fn skip_full(used: &[u64], k: usize, end: usize) -> usize
     requires { (k ≤ end) × (end ≤ length used.now) }
     ensures { (k ≤ result) × (result ≤ end) × ((q : ℕ) → k * 64 ≤ q → q < result * 64 → used_at used.now q ≡ true) }
 {
-    let mut w = k;
-    while w < end {
+    for w in k..end {
         if used[w] != FULL {
             return w;
         }
-        w += 1;
     }
     end
 }
 
-// the first unused place; those before s are known to be used
-pub fn first_unused(used: &[u64], from: usize, n: usize, s: usize) -> usize
+// the first unused place, if there is one; those before s are known to be used
+pub fn first_unused(used: &[u64], from: usize, n: usize, s: usize) -> Option<usize>
     requires { (from + n ≤ length used.now * 64) × (from + n < 2 ^ 63) × (s ≤ n) × ((j : ℕ) → j < s → used_at used.now (from + j) ≡ true) }
-    ensures { result ≡ first_unused used.now from n }
+    ensures { SomeIff result (first_unused used.now from n < n) (first_unused used.now from n) }
 {
     let mut i = s;
     while i < n {
@@ -130,22 +132,22 @@ pub fn first_unused(used: &[u64], from: usize, n: usize, s: usize) -> usize
             i = skip_full(used, p / 64 + 1, (from + n) / 64) * 64 - from;
         } else {
             if !is_used(used, p) {
-                return i;
+                return Some(i);
             }
             i += 1;
         }
     }
-    n
+    None
 }
 
-// the lowest start of l unused places; those before s are known to be used. From the start tried, got places are known to be
+// the lowest start of l unused places, if there is one; those before s are known to be used. From the start tried, got places are known to be
 // unused; a used place rules out every start up to it, full words every start in them.
-pub fn lowest_run(used: &[u64], from: usize, n: usize, l: usize, s: usize) -> Run
+pub fn lowest_run(used: &[u64], from: usize, n: usize, l: usize, s: usize) -> Option<usize>
     requires { (from + n ≤ length used.now * 64) × (from + n < 2 ^ 63) × (1 ≤ l) × (s ≤ n) × ((j : ℕ) → j < s → used_at used.now (from + j) ≡ true) }
     ensures { result ≡ lowest_run used.now from n l }
 {
     if n < l {
-        return Run::Nowhere;
+        return None;
     }
     let last = n - l;
     let mut start = s;
@@ -170,9 +172,9 @@ pub fn lowest_run(used: &[u64], from: usize, n: usize, l: usize, s: usize) -> Ru
         } else {
             got += 1;
             if got == l {
-                return Run::At(start);
+                return Some(start);
             }
         }
     }
-    Run::Nowhere
+    None
 }

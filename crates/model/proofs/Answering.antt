@@ -25,22 +25,22 @@ use Rattle.std.proofs.Common.{Result, Ok, Err}
 
 module _ (bs : List ℕ) where
   pub choice_uneven : (length bs % 6 ≡ 0 → ⊥) → refusal WrongSizes ≡ model_choice bs
-  unfolding model_choice refusal
+  unfolding model_choice
   choice_uneven h = rw (ne_eqb (length bs % 6) 0 h)
 
   pub choice_many : most_keys < length bs / 6 → refusal WrongSizes ≡ model_choice bs
-  unfolding model_choice refusal
+  unfolding model_choice
   choice_many h = both (eqb (length bs % 6) 0) (λ e. rw (e, lt-leb (length bs / 6) most_keys h)) (λ e. rw e)
 
   module _ (whole : length bs % 6 ≡ 0) (few : length bs / 6 ≤ most_keys) (f : ℕ) (e : f ≡ first_fall (keys_in bs)) where
     pub choice_falls : f < length bs / 6 → refusal (NotRising f) ≡ model_choice bs
-    unfolding model_choice choice_over refusal
+    unfolding model_choice choice_over
     choice_falls lt =
         let q : first_fall (keys_in bs) < length (keys_in bs) = rw (length_in bs) (omega arith) in
         rw (eq-eqb (length bs % 6) 0 whole, le-leb (length bs / 6) most_keys few, lt-ltb (first_fall (keys_in bs)) (length (keys_in bs)) q, e)
 
     pub choice_is : length bs / 6 ≤ f → (c : Choice) → c ≡ choice_of (keys_in bs) → done (chosen_values c) ≡ model_choice bs
-    unfolding model_choice choice_over refusal
+    unfolding model_choice choice_over
     choice_is le c r =
         let q : length (keys_in bs) ≤ first_fall (keys_in bs) = rw (length_in bs) (omega arith) in
         rw (eq-eqb (length bs % 6) 0 whole, le-leb (length bs / 6) most_keys few, le-ltb (first_fall (keys_in bs)) (length (keys_in bs)) q, r)

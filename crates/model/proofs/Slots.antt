@@ -87,11 +87,11 @@ module _ (m : Model) where
 -- slot choice, way by way
 module _ (k : ℕ) (m : Model) where
   pub choice-key : key_bound ≤ k → refusal OutOfRange ≡ slot_choice k m
-  unfolding slot_choice refusal
+  unfolding slot_choice
   choice-key h = rw (le-ltb k key_bound h)
 
   pub choice_model : k < key_bound → in_range m ≡ false → refusal Damage ≡ slot_choice k m
-  unfolding slot_choice refusal
+  unfolding slot_choice
   choice_model h e = rw (lt-ltb k key_bound h, e)
 
   pub choice-slot : (s : ℕ) → k < key_bound → InRange m → s ≡ slot_of m k → done (s ∷ []) ≡ slot_choice k m

@@ -15,8 +15,7 @@ use Rattle.build.specs.Building.{Out, out, and_then, Builder, lowest_record, low
 use Rattle.build.specs.Releasing.{release}
 use Rattle.laws.proofs.Tests.{both, le_or_lt}
 use Rattle.laws.specs.Keys.{key_bound, Rising}
-use Rattle.marks.specs.declared.Run.{Run}
-use Rattle.marks.specs.declared.Run.TheVariants.{At as RunAt, Nowhere}
+use Rattle.std.proofs.Common.{None, Option, Some}
 use Rattle.model.proofs.Heights.{height_positive, height_small}
 use Rattle.model.specs.Choice.{model_of}
 use Rattle.model.specs.Groups.{keys_to}
@@ -96,10 +95,10 @@ module _ (d : ℕ) (ks : List ℕ) (rising : Rising ks) (low : height (length ks
       (λ (two : 1 < length (keys_to (model_of ks) s ks)). absurd (omega (arith, child_lower ks rising s two, height_positive (length (keys_to (model_of ks) s ks)))))
       (le_or_lt (length (keys_to (model_of ks) s ks)) 1)
 
-  on_run : (r : ℕ) (w : Run) → (node_on (build d) r (model_of ks) w ks ps m).built ≡ None → (node_on (build d) r (model_of ks) w ks ps m).memory ≡ m
+  on_run : (r : ℕ) (w : Option ℕ) → (node_on (build d) r (model_of ks) w ks ps m).built ≡ None → (node_on (build d) r (model_of ks) w ks ps m).memory ≡ m
   unfolding node_on
-  on_run r Nowhere e = refl
-  on_run r (RunAt s) e =
+  on_run r None e = refl
+  on_run r (Some s) e =
       let node : Node = record { model = model_of ks; start = s } in
       absurd (at_not_none r _ (singles_fill (build d) r node ks few (model_of ks).l 0 ps (place_node m r node (length ks))) e)
 

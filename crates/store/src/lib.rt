@@ -253,9 +253,7 @@ fn first_fault(keys: &[u64]) -> Option<Fault>
     ensures { result ≡ first_fault keys.now }
 {
     let mut least = 0;
-    let mut i = 0;
-    while i < keys.len() {
-        let k = keys[i];
+    for (i, &k) in keys.iter().enumerate() {
         if Key::BOUND <= k {
             return Some(Fault::OutOfRange);
         }
@@ -263,7 +261,6 @@ fn first_fault(keys: &[u64]) -> Option<Fault>
             return Some(Fault::NotRising(i));
         }
         least = k + 1;
-        i += 1;
     }
     None
 }

@@ -69,7 +69,7 @@ build_node-loop-a-init t c =
     let p = c.requires in
     let before = mem c.args.nodes.now c.args.slots.now c.args.used.now in
     let b = c.begin_node in
-    filling_start (c.args.fuel - 1) c.args.keys.now c.args.payloads.now before (mem b.new.nodes b.new.slots b.new.used) b.result c.in-Here.place p.rising p.payloads_len p.sized b.ensures c.in-Here.is
+    filling_start (c.args.fuel - 1) c.args.keys.now c.args.payloads.now before (mem b.new.nodes b.new.slots b.new.used) b.result c.in-Some.place p.rising p.payloads_len p.sized b.ensures c.in-Some.is
 
 pub build_node-run_end-b-requires-clause-in_range :
     goal.build_node-run_end-b-requires-clause-in_range
@@ -97,7 +97,7 @@ build_node-returns-in_default-built t c =
     let p = c.requires in
     let w = turn c.loop-a.invariant p.rising p.payloads_len p.keys_len_bound c.loop-a-test.true c.slot_of.ensures c.run_end-b.ensures in
     let before = mem c.args.nodes.now c.args.slots.now c.args.used.now in
-    let whole = begun_fills c.args.fuel c.args.keys.now c.args.payloads.now before c.if-fuel-lt1.false (mem c.begin_node.new.nodes c.begin_node.new.slots c.begin_node.new.used) c.begin_node.result c.begin_node.ensures _ c.in-Here.is in
+    let whole = begun_fills c.args.fuel c.args.keys.now c.args.payloads.now before c.if-fuel-lt1.false (mem c.begin_node.new.nodes c.begin_node.new.slots c.begin_node.new.used) c.begin_node.result c.begin_node.ensures _ c.in-Some.is in
     let g = c.build_group-g in
     ends-full w c.if-b-a-eq1.false (mem g.new.nodes g.new.slots g.new.used) g.result g.ensures c.args.fuel before whole c.in_default-built.is
 
@@ -112,10 +112,10 @@ build_node-loop-a-preserved t c =
     let p = c.requires in
     let w = turn c.loop-a.invariant p.rising p.payloads_len p.keys_len_bound c.loop-a-test.true c.slot_of.ensures c.run_end-b.ensures in
     let g = c.build_group-g in
-    turn_group w c.if-b-a-eq1.false (mem g.new.nodes g.new.slots g.new.used) g.result g.ensures _ c.in-Some.is g.auto.nodes g.auto.slots g.auto.used
+    turn_group w c.if-b-a-eq1.false (mem g.new.nodes g.new.slots g.new.used) g.result g.ensures _ c.in-Some-built.is g.auto.nodes g.auto.slots g.auto.used
 
 pub build_node-returns : goal.build_node-returns
 build_node-returns t c =
     let before = mem c.args.nodes.now c.args.slots.now c.args.used.now in
-    let whole = begun_fills c.args.fuel c.args.keys.now c.args.payloads.now before c.if-fuel-lt1.false (mem c.begin_node.new.nodes c.begin_node.new.slots c.begin_node.new.used) c.begin_node.result c.begin_node.ensures _ c.in-Here.is in
+    let whole = begun_fills c.args.fuel c.args.keys.now c.args.payloads.now before c.if-fuel-lt1.false (mem c.begin_node.new.nodes c.begin_node.new.slots c.begin_node.new.used) c.begin_node.result c.begin_node.ensures _ c.in-Some.is in
     ends_filled c.loop-a.invariant c.requires.rising c.requires.payloads_len c.loop-a-test.false c.args.fuel before whole

@@ -1,29 +1,27 @@
 -- `build::find_place` meets its contract: the record is the lowest unused, and the run the lowest that fits. What the two
 -- searches require follows from the hint, and what they find is `place_for`. Assumes nothing.
-use mathlib.Core.Path.{sym}
+use mathlib.Core.Path.{sym, ◌∙◌}
 use native.Mathlib.Omega.{arith}
 use Rattle.marks.proofs.Lowest.{first_unused_at}
 use Rattle.pool.specs.Memory.{mem}
-use Rattle.build.proofs.Places.{hinted_records, no_record, no_run, run_here}
+use Rattle.build.proofs.Places.{no_record, no_slot, no_run, run_here}
 use Rattle.build.proofs.find_place.Goals as goal
 
-pub first_unused-record-requires : goal.first_unused-record-requires
-first_unused-record-requires c =
-    (omega (arith, c.requires.sized), omega (arith, c.requires.sized), c.requires.hinted.record-within, hinted_records (mem c.args.nodes.now c.args.slots.now c.args.used.now) c.args.hint c.requires.hinted)
+pub returns-in_err-record : goal.returns-in_err-record
+returns-in_err-record c = c.from_residual.ensures ∙ no_record (mem c.args.nodes.now c.args.slots.now c.args.used.now) c.args.m c.in_err-record.ensures
 
-pub returns-then-records-record : goal.returns-then-records-record
-returns-then-records-record c =
-    no_record (mem c.args.nodes.now c.args.slots.now c.args.used.now) c.args.m _ c.first_unused-record.ensures c.if-records-record.true
+pub returns-in_err-first : goal.returns-in_err-first
+returns-in_err-first c =
+    c.from_residual-in_err-first.ensures ∙ no_slot (mem c.args.nodes.now c.args.slots.now c.args.used.now) c.args.m c.in_ok-record.ensures.0 (omega (arith, c.requires.in_range)) c.in_err-first.ensures
 
 pub lowest_run-requires : goal.lowest_run-requires
 lowest_run-requires c =
-    let first = first_unused_at c.args.used.now _ _ c.first_unused-first.result (sym c.first_unused-first.ensures) in
-    (omega (arith, c.requires.sized), omega (arith, c.requires.sized), omega (arith, c.requires.in_range), first.0, first.1)
+    let first = first_unused_at c.args.used.now _ _ c.in_ok-first.first (sym c.in_ok-first.ensures.1) in
+    (omega (arith, c.requires.sized), omega (arith, c.requires.sized), (omega (arith, c.requires.in_range)), first.0, first.1)
 
-pub returns-in-Nowhere : goal.returns-in-Nowhere
-returns-in-Nowhere c =
-    no_run (mem c.args.nodes.now c.args.slots.now c.args.used.now) c.args.m _ c.first_unused-record.ensures c.if-records-record.false _ c.lowest_run.ensures c.in-Nowhere.is
+pub returns-in_err-start : goal.returns-in_err-start
+returns-in_err-start c = c.from_residual-in_err-start.ensures ∙ no_run (mem c.args.nodes.now c.args.slots.now c.args.used.now) c.args.m c.in_ok-record.ensures.0 c.in_err-start.ensures
 
-pub returns-in-At : goal.returns-in-At
-returns-in-At c =
-    run_here (mem c.args.nodes.now c.args.slots.now c.args.used.now) c.args.m _ c.first_unused-record.ensures c.if-records-record.false _ c.lowest_run.ensures _ _ c.first_unused-first.ensures c.in-At.is
+pub returns : goal.returns
+returns c =
+    run_here (mem c.args.nodes.now c.args.slots.now c.args.used.now) c.args.m c.in_ok-record.ensures.0 _ _ _ c.in_ok-record.ensures.1 c.in_ok-first.ensures.1 c.in_ok-start.ensures

@@ -1,11 +1,7 @@
 -- `marks::clear` meets its contract: a bit that is set is taken away, one that is not is left. Assumes nothing.
 use native.Mathlib.Omega.{arith}
 use Rattle.marks.proofs.Marks.{clear_stored, clear_unset}
-use Rattle.marks.proofs.Words.{shifted_within}
 use Rattle.marks.proofs.clear.Goals as goal
-
-pub overflow_sub-used : goal.overflow_sub-used
-overflow_sub-used c = shifted_within _ _ (omega arith) c.if-x-p-eq1.true
 
 pub returns-then-x-p-eq1 : goal.returns-then-x-p-eq1
 returns-then-x-p-eq1 c = clear_stored _ _ c.if-x-p-eq1.true

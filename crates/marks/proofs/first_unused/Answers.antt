@@ -1,16 +1,9 @@
 -- `marks::first_unused` meets its contract: at each turn, all places passed are used. Assumes nothing.
 use mathlib.Core.Path.{sym, ◌∙◌}
 use native.Mathlib.Omega.{arith}
-use borrow.Author.Tests.{leb-true}
 use Rattle.marks.proofs.Lowest.{first_unused_is}
-use Rattle.marks.proofs.Turns.{each_one, full-words_each, used-next}
+use Rattle.marks.proofs.Turns.{full-words_each, used-next}
 use Rattle.marks.proofs.first_unused.Goals as goal
-
-pub loop-i-init : goal.loop-i-init
-loop-i-init c = (omega arith, c.requires.3)
-
-pub skip_full-requires : goal.skip_full-requires
-skip_full-requires c = (omega (arith, leb-true), omega arith)
 
 pub loop-i-preserved-then-used-p : goal.loop-i-preserved-then-used-p
 loop-i-preserved-then-used-p c =
@@ -19,12 +12,11 @@ loop-i-preserved-then-used-p c =
     (omega arith, (λ j h. used-next _ _ _ _ l.1 w j (omega arith)))
 
 pub returns-then-not-is_used : goal.returns-then-not-is_used
-returns-then-not-is_used c = sym (first_unused_is _ _ _ _ (omega arith) c.loop-i.invariant.1 (λ h. sym c.is_used.ensures ∙ c.if-not-is_used.true))
-
-pub loop-i-preserved : goal.loop-i-preserved
-loop-i-preserved c =
-    let l = c.loop-i.invariant in
-    (omega arith, used-next _ _ _ 1 l.1 (each_one _ _ (sym c.is_used.ensures ∙ c.if-not-is_used.false)))
+returns-then-not-is_used c =
+    let e = first_unused_is _ _ c.args.n _ (omega arith) c.loop-i.invariant.1 (λ h. sym c.is_used.ensures ∙ c.if-not-is_used.true) in
+    (omega arith, sym e)
 
 pub returns : goal.returns
-returns c = sym (first_unused_is _ _ _ _ (omega arith) (λ j h. c.loop-i.invariant.1 j (omega arith)) (λ h. absurd (omega arith)))
+returns c =
+    let e = first_unused_is _ _ c.args.n c.args.n (omega arith) (λ j h. c.loop-i.invariant.1 j (omega arith)) (λ h. absurd (omega arith)) in
+    λ h. absurd (omega arith)

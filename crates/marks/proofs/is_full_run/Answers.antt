@@ -4,17 +4,14 @@ use mathlib.Core.Path.{refl, sym, ◌∙◌}
 use native.Mathlib.Omega.{arith}
 use borrow.Author.Tests.{leb-true}
 use Rattle.marks.proofs.Marks.{used-within}
-use Rattle.marks.proofs.Turns.{each_one, full-word_each, full_start, full-next, full_not_here, full_not_word, full-end}
+use Rattle.marks.proofs.Turns.{each_one, full-word_each, full-next, full_not_here, full_not_word, full-end}
 use Rattle.marks.proofs.is_full_run.Goals as goal
-
-pub loop-q-init : goal.loop-q-init
-loop-q-init c = (refl, omega arith, full_start _ _ _)
 
 pub returns-then-not-is_used : goal.returns-then-not-is_used
 returns-then-not-is_used c = full_not_here _ _ _ (omega arith) (sym c.is_used.ensures ∙ c.if-not-is_used.true) ∙ c.loop-q.invariant.2
 
 pub returns-then-used-q : goal.returns-then-used-q
-returns-then-used-q c = full_not_word _ _ _ c.if-q-eq0.true c.if-end-q-ge64.true (λ i. (c.shared_slice_known-then-end-q-ge64-1.given i).fits) c.if-used-q.true ∙ c.loop-q.invariant.2
+returns-then-used-q c = full_not_word _ _ _ c.if-q-eq0.true c.if-end-q-ge64.true (λ i. (c.type_inv.used i).fits) c.if-used-q.true ∙ c.loop-q.invariant.2
 
 pub loop-q-preserved-then-end-q-ge64 : goal.loop-q-preserved-then-end-q-ge64
 loop-q-preserved-then-end-q-ge64 c =

@@ -16,9 +16,6 @@ unfolding free_run
 loop-start-init c =
     (omega arith, omega arith, omega arith, omega arith, refl, starts_used _ _ c.args.l c.args.s (omega arith) c.requires.4)
 
-pub skip_full-requires : goal.skip_full-requires
-skip_full-requires c = (omega arith, omega arith)
-
 pub loop-start-preserved-then-w : goal.loop-start-preserved-then-w
 unfolding free_run
 loop-start-preserved-then-w c =

@@ -1,11 +1,6 @@
 -- `marks::skip_full` meets its contract: at each turn, all places of the words passed are used. Assumes nothing.
-use Prim.Native.Nat.{◌-◌, ◌≤◌}
 use Rattle.marks.proofs.Turns.{UsedWords}
 use Rattle.marks.proofs.skip_full.Given as goal
 
 abbrev pub invariant-loop-w : goal.invariant-loop-w
-invariant-loop-w l =
-    (l.k ≤ l.w) × (l.w ≤ l.end) × UsedWords l.used l.k l.w
-
-abbrev pub decreases-loop-w : goal.decreases-loop-w
-decreases-loop-w l = l.end - l.w
+invariant-loop-w l = UsedWords l.used l.k l.w

@@ -8,20 +8,16 @@ use Rattle.store.proofs.first_fault.Goals as goal
 
 pub loop-i-init : goal.loop-i-init
 unfolding first_fault
-loop-i-init c = (omega arith, omega arith, refl)
+loop-i-init c = (omega arith, refl)
 
 pub returns-then-k-ge-BOUND : goal.returns-then-k-ge-BOUND
-returns-then-k-ge-BOUND c =
-    fault_range _ _ _ _ c.loop-i.invariant.2 (omega arith) c.if-k-ge-BOUND.true
+returns-then-k-ge-BOUND c = fault_range _ _ _ _ c.loop-i.invariant.1 (omega arith) c.if-k-ge-BOUND.true
 
 pub returns-then-k-least : goal.returns-then-k-least
-returns-then-k-least c =
-    fault_fall _ _ _ _ c.loop-i.invariant.2 (omega arith) (omega arith) c.if-k-least.true
+returns-then-k-least c = fault_fall _ _ _ _ c.loop-i.invariant.1 (omega arith) (omega arith) c.if-k-least.true
 
 pub loop-i-preserved : goal.loop-i-preserved
-loop-i-preserved c =
-    (omega arith, omega arith, fault_on _ _ _ _ c.loop-i.invariant.2 (omega arith) (omega arith) c.if-k-least.false)
+loop-i-preserved c = (omega arith, fault_on _ _ _ _ c.loop-i.invariant.1 (omega arith) (omega arith) c.if-k-least.false)
 
 pub returns : goal.returns
-returns c =
-    fault_none _ _ _ _ c.loop-i.invariant.2 c.loop-i-test.false
+returns c = fault_none _ _ _ _ c.loop-i.invariant.1 c.loop-i-test.false

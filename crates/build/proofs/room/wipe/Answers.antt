@@ -1,22 +1,9 @@
--- `room::wipe` meets its contract. The loop's invariant: what is left to zero from here on is the whole (the pools' Sets).
--- Assumes nothing.
-use mathlib.Core.Path.{◌≡◌, refl, sym, ◌∙◌}
-use Prim.Native.Nat.{◌-◌}
-use native.Mathlib.Omega.{arith}
-use lib.ListN.{length-set}
-use Rattle.pool.proofs.Sets.{zeros-step, zeros-end}
+-- `room::wipe` meets its contract: what is filled and what is left beside it is the list with zeros set into it. Assumes nothing.
+use Rattle.std.proofs.Common.{sym, length-take-le}
+use Rattle.build.proofs.Undoing.{wiped_is}
 use Rattle.build.proofs.room.wipe.Goals as goal
-
-pub loop-i-init : goal.loop-i-init
-loop-i-init c =
-    let n = c.args.n in
-    let e : n - 0 ≡ n = omega arith in
-    (refl, rw e)
-
-pub loop-i-preserved : goal.loop-i-preserved
-loop-i-preserved c =
-    (simp length-set c.loop-i.invariant.0, sym (zeros-step c.loop-i.list c.loop-i.i _ c.loop-i-test.true) ∙ c.loop-i.invariant.1)
 
 pub returns : goal.returns
 returns c =
-    sym (zeros-end c.loop-i.list c.loop-i.i _ c.loop-i-test.false) ∙ c.loop-i.invariant.1
+    let filled = c.fill.ensures.after (λ y e. e) in
+    rw (filled, length-take-le c.args.n c.args.list.now c.requires) (sym (wiped_is c.args.list.now c.args.n c.requires))

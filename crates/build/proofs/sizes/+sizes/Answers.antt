@@ -1,32 +1,14 @@
 -- `build::sizes::sizes` meets its contract: each turn of its loop is a law of Counting, and the child's count fits since the
 -- bounds that `Left` keeps leave room for it. Assumes nothing.
 use native.Mathlib.Omega.{arith}
-use Prim.Native.Nat.{◌-◌}
 use Rattle.laws.proofs.Parts.{length_part}
 use Rattle.laws.proofs.Risings.{rising_part}
-use Rattle.build.proofs.Counting.{
-  run-fewer,
-  left-start,
-  left_alone,
-  left-child,
-  left-done,
-  left-slots_small,
-  left-depth_small,
-  counts_none,
-  counts_nodes_small,
-  counts_slots_small,
-  chosen_model,
-  chosen-range,
-}
+use Rattle.build.proofs.Counting.{run-fewer, left_alone, left-child, left-done, left-slots_small, left-depth_small, counts_none, counts_nodes_small, counts_slots_small, chosen_model, chosen-range}
 use Rattle.build.proofs.sizes.+sizes.Goals as goal
 
 pub returns-then-fuel-lt1 : goal.returns-then-fuel-lt1
 returns-then-fuel-lt1 t c =
     counts_none c.args.fuel c.args.keys.now c.args.at c.args.list.now c.if-fuel-lt1.true
-
-pub loop-a-init : goal.loop-a-init
-loop-a-init t c =
-    left-start (c.args.fuel - 1) c.model_of.result.model c.args.keys.now c.args.at c.put.new.list
 
 pub run_end-b-requires-clause-in_range : goal.run_end-b-requires-clause-in_range
 run_end-b-requires-clause-in_range t c = chosen-range c.args.keys.now c.requires.rising c.model_of.ensures
@@ -73,7 +55,7 @@ loop-a-preserved-then-b-a-gt1 t c =
     c.loop-a.invariant
     c.if-b-a-gt1.true
     c.sizes-child.ensures
-    c.larger-below.ensures
+    c.max-below.ensures
 
 pub loop-a-preserved : goal.loop-a-preserved
 loop-a-preserved t c =
