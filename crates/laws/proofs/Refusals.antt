@@ -54,7 +54,8 @@ number-not_0 Full h = cc
 number-not_0 NoRoom h = cc
 number-not_0 Damage h = cc
 
+pub refusal-not_0 : (e : Refusal) → (refusal e).number ≡ 0 → ⊥
+refusal-not_0 e h = number-not_0 e (sym (number-refusal e) ∙ h)
+
 pub refusal-not_done : (e : Refusal) (vs : List ℕ) → refusal e ≡ done vs → ⊥
-refusal-not_done e vs h =
-    let n : (refusal e).number ≡ 0 = ap (λ (a : Answer ℕ). a.number) h in
-    number-not_0 e (sym (number-refusal e) ∙ n)
+refusal-not_done e vs h = refusal-not_0 e (ap (λ (a : Answer ℕ). a.number) h)

@@ -1,5 +1,5 @@
 -- The code's refusals (document 01, "Numbers of the answers"): which number each has, and which answer it is. Definitions only.
-use Rattle.std.specs.Prelude.{[], ◌∷◌, ℕ}
+use Rattle.std.specs.Prelude.{[], ◌∷◌, ℕ, Result, Ok, Err}
 use Rattle.laws.specs.Answers.{Answer, refused, refused_with, wrong_sizes, out_of_range, reversed, not_rising, held, not_held, full, no_room, damage}
 use Rattle.laws.specs.declared.Refusal.{Refusal}
 use Rattle.laws.specs.declared.Refusal.TheVariants.{WrongSizes, OutOfRange, Reversed, NotRising, Held, NotHeld, Full, NoRoom, Damage}
@@ -26,3 +26,8 @@ refusal (NotHeld visits) = refused_with not_held (visits ∷ [])
 refusal Full = refused full
 refusal NoRoom = refused no_room
 refusal Damage = refused damage
+
+-- the number of an answer that may be a refusal
+abbrev pub status_of : {T : Type 0} → Result T Refusal → ℕ
+status_of (Ok x) = 0
+status_of (Err e) = number_of e

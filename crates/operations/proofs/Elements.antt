@@ -7,7 +7,7 @@ use native.Mathlib.Omega.{arith}
 use lib.Dec.{ltb, leb, eqb}
 use lib.ListN.{length, get_or}
 use lib.Seq.{sets}
-use Rattle.laws.specs.Answers.{done, refused, wrong_sizes, out_of_range, reversed, damage}
+use Rattle.laws.specs.Answers.{done, as_number, refused, wrong_sizes, out_of_range, reversed, damage}
 use Rattle.laws.specs.Pick.{pick}
 use Rattle.laws.specs.Keys.{key_bound}
 use Rattle.lines.specs.Lines.{line, Text, write}
@@ -48,7 +48,7 @@ module _ (h : Handle) (u v : ℕ) (m : Mem) (ks ps : List ℕ) where
   out_within l f = choice-within (length ks) damage l.sound (done-band l) ks ps (λ e. f) (λ e. omega arith)
     where
       done-band : Listing → Band
-      done-band l = band (done (length l.keys ∷ l.more ∷ [])) (sets ks 0 l.keys) (sets ps 0 (map (λ (q : ℕ). get_or m.slots (payload_word q) 0) l.places))
+      done-band l = band (done (length l.keys ∷ as_number l.more ∷ [])) (sets ks 0 l.keys) (sets ps 0 (map (λ (q : ℕ). get_or m.slots (payload_word q) 0) l.places))
 
   band-within : Within (length ks) (band_of h u v m ks ps)
   unfolding band_of

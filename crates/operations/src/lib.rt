@@ -7,17 +7,17 @@ ghost use Rattle.lines.specs.Kinds.{body_length};
 ghost use Rattle.lines.specs.Lines.{longest_line, text, write};
 ghost use Rattle.pool.specs.Memory.{mem};
 ghost use Rattle.rebuild.specs.Rebuilding.{scratch};
-ghost use Rattle.store.specs.Bands.{band_of, listed};
-ghost use Rattle.store.specs.Calls.{lookup_of, replace_of, looked, changed};
-ghost use Rattle.insert.specs.Inserting.{insert_of, inserted};
+ghost use Rattle.store.specs.Bands.{band_of};
+ghost use Rattle.store.specs.Calls.{lookup_of, replace_of};
+ghost use Rattle.insert.specs.Inserting.{insert_of};
+ghost use Rattle.laws.specs.Refusals.{status_of};
 ghost use Rattle.operations.specs.Printing.{answer_line, element_lines, band_lines};
 ghost use Rattle.operations.specs.Sessions.{longest_list, longest_answer};
 ghost use Rattle.operations.specs.Stepping.{state, step_of, stepped, write_step};
 
-use insert::Inserted;
-use laws::Key;
+use laws::{Key, Refusal};
 use lines::Operation;
-use store::{Changed, Handle, Listed, Looked};
+use store::Handle;
 
 pub mod blocks;
 
@@ -45,53 +45,13 @@ impl Next {
     {}
 }
 
-fn inserted_number(a: Inserted) -> u64
-    ensures { result ≡ (inserted a).number }
+// The number of an answer: 0, or that of its refusal.
+fn number_of<T>(answer: &Result<T, Refusal>) -> u64
+    ensures { result ≡ status_of answer.now }
 {
-    match a {
-        Inserted::Done(_, _) => 0,
-        Inserted::WrongSizes => 1,
-        Inserted::OutOfRange => 2,
-        Inserted::Held => 5,
-        Inserted::Full => 7,
-        Inserted::NoRoom => 8,
-        Inserted::Damage => 9,
-    }
-}
-
-fn changed_number(a: Changed) -> u64
-    ensures { result ≡ (changed a).number }
-{
-    match a {
-        Changed::Done => 0,
-        Changed::WrongSizes => 1,
-        Changed::OutOfRange => 2,
-        Changed::NotHeld(_) => 6,
-        Changed::Damage => 9,
-    }
-}
-
-fn looked_number(a: Looked) -> u64
-    ensures { result ≡ (looked a).number }
-{
-    match a {
-        Looked::Found(_, _) => 0,
-        Looked::WrongSizes => 1,
-        Looked::OutOfRange => 2,
-        Looked::NotHeld(_) => 6,
-        Looked::Damage => 9,
-    }
-}
-
-fn listed_number(a: Listed) -> u64
-    ensures { result ≡ (listed a).number }
-{
-    match a {
-        Listed::Done(_, _) => 0,
-        Listed::WrongSizes => 1,
-        Listed::OutOfRange => 2,
-        Listed::Reversed => 3,
-        Listed::Damage => 9,
+    match answer {
+        Ok(_) => 0,
+        Err(refusal) => refusal.number(),
     }
 }
 
@@ -121,12 +81,12 @@ fn insert(
     let i = insert::insert(h, key, payload, nodes, slots, used, keys, payloads, places);
     let handle = i.handle;
     let answer = i.answer;
-    let Inserted::Done(conflict, tidying) = answer else {
-        let number = inserted_number(answer);
-        let end = lines::line(b'1', &[number], out, at);
+    let Ok(done) = answer else {
+        let end = lines::line(b'1', &[number_of(&answer)], out, at);
         return Next { handle, at: end };
     };
-    let end = lines::line(b'1', &[0, conflict as u64, tidying as u64], out, at);
+    let tidying = done.tidying.number() as u64;
+    let end = lines::line(b'1', &[0, u64::from(done.conflict), tidying], out, at);
     Next { handle, at: end }
 }
 
@@ -149,9 +109,8 @@ fn delete(
     let c = delete::delete(h, key, nodes, slots, used);
     let handle = c.handle;
     let answer = c.answer;
-    let Changed::Done = answer else {
-        let number = changed_number(answer);
-        let end = lines::line(b'2', &[number], out, at);
+    let Ok(()) = answer else {
+        let end = lines::line(b'2', &[number_of(&answer)], out, at);
         return Next { handle, at: end };
     };
     let end = lines::line(b'2', &[0], out, at);
@@ -178,9 +137,8 @@ fn replace(
     let c = store::replace(h, key, payload, nodes, slots, used);
     let handle = c.handle;
     let answer = c.answer;
-    let Changed::Done = answer else {
-        let number = changed_number(answer);
-        let end = lines::line(b'5', &[number], out, at);
+    let Ok(()) = answer else {
+        let end = lines::line(b'5', &[number_of(&answer)], out, at);
         return Next { handle, at: end };
     };
     let end = lines::line(b'5', &[0], out, at);
@@ -202,11 +160,10 @@ fn lookup(
     ensures upper_bound { (result ≤ at + longest_line) × (length out.new ≡ length out.old) }
 {
     let answer = store::lookup(h, key, nodes, slots, used);
-    let Looked::Found(payload, visits) = answer else {
-        let number = looked_number(answer);
-        return lines::line(b'3', &[number], out, at);
+    let Ok(found) = answer else {
+        return lines::line(b'3', &[number_of(&answer)], out, at);
     };
-    lines::line(b'3', &[0, payload, visits as u64], out, at)
+    lines::line(b'3', &[0, found.payload, found.visits as u64], out, at)
 }
 
 // A line "= key payload" for each of the first n elements.
@@ -244,12 +201,12 @@ fn band(
     ensures upper_bound { (result ≤ at + longest_answer) × (length out.new ≡ length out.old) }
 {
     let answer = store::bands::band(h, u, v, nodes, slots, used, keys, payloads);
-    let Listed::Done(n, more) = answer else {
-        let number = listed_number(answer);
-        return lines::line(b'4', &[number], out, at);
+    let Ok(listed) = answer else {
+        return lines::line(b'4', &[number_of(&answer)], out, at);
     };
-    let first = lines::line(b'4', &[0, n as u64, more as u64], out, at);
-    list_elements(n, keys, payloads, out, first)
+    let more = u64::from(listed.more);
+    let first = lines::line(b'4', &[0, listed.count as u64, more], out, at);
+    list_elements(listed.count, keys, payloads, out, first)
 }
 
 // One operation with its body: the call is made on the state, and its answer printed from `at` on.

@@ -5,20 +5,21 @@ use Prim.Native.Nat.{◌≤◌}
 use native.Mathlib.Omega.{arith}
 use lib.ListN.{length}
 use Rattle.store.specs.Bands.{Band, listed}
-use Rattle.operations.proofs.Answering.{refused-band-text, done-band-text}
+use Rattle.operations.proofs.Answering.{converted, refused-band-text, done-band-text}
 use Rattle.operations.proofs.Elements.{band-lists}
-use Rattle.operations.proofs.Refusing.{listed-not-done}
+use Rattle.operations.proofs.Refusing.{listed-number, listed-refuses}
+use Rattle.laws.specs.Answers.{as_number}
 use Rattle.operations.proofs.band.Goals as goal
 
 pub returns-in_default : goal.returns-in_default
-returns-in_default c = record { keys_after = ap (λ (x : Band). x.keys) c.band-answer.ensures; payloads_after = ap (λ (x : Band). x.payloads) c.band-answer.ensures; result_after = refused-band-text _ _ _ (listed c.band-answer.result) _ c.line.ensures.result_after c.listed_number-number.ensures (listed-not-done c.band-answer.result c.in_default.not-Done) (ap (λ (x : Band). x.answer) c.band-answer.ensures); upper_bound = (omega (arith, c.line.ensures.upper_bound.0), c.line.ensures.upper_bound.1) }
+returns-in_default c = record { keys_after = ap (λ (x : Band). x.keys) c.band-answer.ensures; payloads_after = ap (λ (x : Band). x.payloads) c.band-answer.ensures; result_after = refused-band-text _ _ _ (listed c.band-answer.result) _ c.line.ensures.result_after (c.number_of.ensures ∙ listed-number c.band-answer.result) (listed-refuses c.band-answer.result c.in_default.not-Ok) (ap (λ (x : Band). x.answer) c.band-answer.ensures); upper_bound = (omega (arith, c.line.ensures.upper_bound.0), c.line.ensures.upper_bound.1) }
 
 pub list_elements-requires : goal.list_elements-requires
 unfolding listed
-list_elements-requires c = let fits : c.in-Done.n ≤ length c.args.keys.now = band-lists c.args.h c.args.u c.args.v _ _ _ c.in-Done.n c.in-Done.more _ _ c.in-Done.ensures in
+list_elements-requires c = let fits : c.in-Ok.listed.count ≤ length c.args.keys.now = band-lists c.args.h c.args.u c.args.v _ _ _ c.in-Ok.listed.count (as_number c.in-Ok.listed.more) _ _ c.in-Ok.ensures in
     record { n_in_bounds = (omega (arith, fits, c.band-answer.auto.keys), omega (arith, fits, c.band-answer.auto.payloads, c.requires.keys_len_bound.1)); n_in_bounds_2 = omega (arith, fits, c.requires.keys_len_bound.0, c.requires.longest_answer_in_bounds, c.line-first.ensures.upper_bound) }
 
 pub returns : goal.returns
 unfolding listed
-returns c = let fits : c.in-Done.n ≤ length c.args.keys.now = band-lists c.args.h c.args.u c.args.v _ _ _ c.in-Done.n c.in-Done.more _ _ c.in-Done.ensures in
-    record { keys_after = ap (λ (x : Band). x.keys) c.band-answer.ensures; payloads_after = ap (λ (x : Band). x.payloads) c.band-answer.ensures; result_after = done-band-text _ _ _ c.in-Done.n c.in-Done.more _ _ _ c.line-first.ensures.result_after c.list_elements.ensures.result_after c.in-Done.ensures; upper_bound = (omega (arith, fits, c.requires.keys_len_bound.0, c.line-first.ensures.upper_bound, c.list_elements.ensures.upper_bound), c.list_elements.ensures.upper_bound.1 ∙ c.line-first.ensures.upper_bound.1) }
+returns c = let fits : c.in-Ok.listed.count ≤ length c.args.keys.now = band-lists c.args.h c.args.u c.args.v _ _ _ c.in-Ok.listed.count (as_number c.in-Ok.listed.more) _ _ c.in-Ok.ensures in
+    record { keys_after = ap (λ (x : Band). x.keys) c.band-answer.ensures; payloads_after = ap (λ (x : Band). x.payloads) c.band-answer.ensures; result_after = done-band-text _ _ _ c.in-Ok.listed.count (as_number c.in-Ok.listed.more) _ _ _ (rw (c.from-more.ensures ∙ converted _) at c.line-first.ensures.result_after) c.list_elements.ensures.result_after c.in-Ok.ensures; upper_bound = (omega (arith, fits, c.requires.keys_len_bound.0, c.line-first.ensures.upper_bound, c.list_elements.ensures.upper_bound), c.list_elements.ensures.upper_bound.1 ∙ c.line-first.ensures.upper_bound.1) }
