@@ -7,8 +7,7 @@ use Rattle.pool.specs.Memory.{Mem}
 use Rattle.sounding.specs.declared.Sounding.{Sounding}
 use Rattle.store.specs.Bands.{Band}
 use Rattle.desk.specs.declared.InsertedAnswer.{InsertedAnswer}
-use Rattle.insert.specs.Inserting.{Insert, inserted}
-use Rattle.insert.specs.declared.Inserting.{Inserting}
+use Rattle.insert.specs.Inserting.{Insert}
 use Rattle.rebuild.specs.Rebuilding.{Scratch}
 use Rattle.store.specs.Calls.{Call, changed}
 use Rattle.store.specs.declared.Changing.{Changing}
@@ -46,7 +45,7 @@ unfoldable pub pass_change : Call → Change
 pass_change c = change (record { number = c.answer.number; visits = get_or c.answer.values 0 0; handle = c.handle }) c.memory
 
 -- the same of the code's answer
-unfoldable pub pass_changing : Changing → ChangedAnswer
+unfoldable pub pass_changing : Changing (Unit {0}) → ChangedAnswer
 pass_changing c = record { number = (changed c.answer).number; visits = get_or (changed c.answer).values 0 0; handle = c.handle }
 
 -- what a load leaves, answer and memory
@@ -88,7 +87,3 @@ insertion a m s = record { answer = a; memory = m; scratch = s }
 unfoldable pub pass_insert : Insert → Insertion
 pass_insert i =
     insertion (record { number = i.answer.number; conflict = get_or i.answer.values 0 0; tidying = get_or i.answer.values 1 0; handle = i.handle }) i.memory i.scratch
-
--- the same of the code's answer
-unfoldable pub pass_inserting : Inserting → InsertedAnswer
-pass_inserting i = record { number = (inserted i.answer).number; conflict = get_or (inserted i.answer).values 0 0; tidying = get_or (inserted i.answer).values 1 0; handle = i.handle }

@@ -10,13 +10,10 @@ ghost use Rattle.rebuild.specs.Rebuilding.{scratch};
 ghost use Rattle.sounding.specs.Studio.{unpack_of};
 ghost use Rattle.store.specs.Bands.{band_of};
 ghost use Rattle.store.specs.Calls.{lookup_of, replace_of};
-ghost use Rattle.store.specs.Handles.{no_handle};
 ghost use Rattle.store.specs.Loading.{load_of};
-ghost use Rattle.desk.specs.Passing.{pass_sounding, pass_load, load, pass_looked, pass_change, pass_changing, change, pass_band, listing, pass_insert, pass_inserting, insertion};
+ghost use Rattle.desk.specs.Passing.{pass_sounding, pass_load, load, pass_looked, pass_change, pass_changing, change, pass_band, listing, pass_insert, insertion};
 
-use insert::{Inserted, Inserting};
-use sounding::Unpacked;
-use store::{Changed, Changing, Handle, Listed, Loaded, Looked};
+use store::{Changing, Handle};
 
 #[repr(C)]
 #[derive(Clone, Copy)]
@@ -67,31 +64,40 @@ pub struct InsertedAnswer {
     pub handle: Handle,
 }
 
-pub fn soorqabiye_unpack(key: u64) -> SoundingAnswer
-    ensures { result ≡ pass_sounding (unpack_of key) }
-{
-    let Unpacked::Of(s) = sounding::unpack(key) else {
-        return SoundingAnswer {
-            number: 2,
-            depth: 0,
-            sounding: 0,
-        };
-    };
-    let depth = s.depth;
-    SoundingAnswer {
-        number: 0,
-        depth,
-        sounding: s.number,
+impl From<Changing<()>> for ChangedAnswer {
+    ghost from_gives = { λ c r. r ≡ pass_changing c };
+
+    fn from(c: Changing<()>) -> Self {
+        let handle = c.handle;
+        match c.answer {
+            Ok(()) => Self {
+                number: 0,
+                visits: 0,
+                handle,
+            },
+            Err(refusal) => Self {
+                number: refusal.number(),
+                visits: refusal.told(),
+                handle,
+            },
+        }
     }
 }
 
-fn refused_load(number: u64, place: usize) -> LoadedAnswer
-    ensures { result ≡ record { number = number; place = place; handle = no_handle } }
+pub fn soorqabiye_unpack(key: u64) -> SoundingAnswer
+    ensures { result ≡ pass_sounding (unpack_of key) }
 {
-    LoadedAnswer {
-        number,
-        place,
-        handle: Handle::new(0, 0, 0, 0, 0),
+    match sounding::unpack(key) {
+        Ok(sounding) => SoundingAnswer {
+            number: 0,
+            depth: sounding.depth,
+            sounding: sounding.number,
+        },
+        Err(_) => SoundingAnswer {
+            number: 2,
+            depth: 0,
+            sounding: 0,
+        },
     }
 }
 
@@ -107,16 +113,16 @@ pub fn soorqabiye_load(
         ≡ pass_load (load_of capacity keys.now payloads.now (mem nodes.old slots.old used.old)) }
 {
     match store::load(capacity, keys, payloads, nodes, slots, used) {
-        Loaded::Done(h) => LoadedAnswer {
+        Ok(handle) => LoadedAnswer {
             number: 0,
             place: 0,
-            handle: h,
+            handle,
         },
-        Loaded::WrongSizes => refused_load(1, 0),
-        Loaded::Full => refused_load(7, 0),
-        Loaded::OutOfRange => refused_load(2, 0),
-        Loaded::NotRising(place) => refused_load(4, place),
-        Loaded::NoRoom => refused_load(8, 0),
+        Err(refusal) => LoadedAnswer {
+            number: refusal.number(),
+            place: refusal.told(),
+            handle: Handle::new(0, 0, 0, 0, 0),
+        },
     }
 }
 
@@ -130,63 +136,15 @@ pub fn soorqabiye_lookup(
     ensures { result ≡ pass_looked (lookup_of h key (mem nodes.now slots.now used.now)) }
 {
     match store::lookup(h, key, nodes, slots, used) {
-        Looked::Found(payload, visits) => LookedAnswer {
+        Ok(found) => LookedAnswer {
             number: 0,
-            payload,
-            visits,
+            payload: found.payload,
+            visits: found.visits,
         },
-        Looked::NotHeld(visits) => LookedAnswer {
-            number: 6,
+        Err(refusal) => LookedAnswer {
+            number: refusal.number(),
             payload: 0,
-            visits,
-        },
-        Looked::OutOfRange => refused_look(2),
-        Looked::WrongSizes => refused_look(1),
-        Looked::Damage => refused_look(9),
-    }
-}
-
-fn refused_look(number: u64) -> LookedAnswer
-    ensures { result ≡ record { number = number; payload = 0; visits = 0 } }
-{
-    LookedAnswer {
-        number,
-        payload: 0,
-        visits: 0,
-    }
-}
-
-// A change's answer in fields.
-fn passed(c: Changing) -> ChangedAnswer
-    ensures { result ≡ pass_changing c }
-{
-    let h = c.handle;
-    let a = c.answer;
-    match a {
-        Changed::Done => ChangedAnswer {
-            number: 0,
-            visits: 0,
-            handle: h,
-        },
-        Changed::NotHeld(visits) => ChangedAnswer {
-            number: 6,
-            visits,
-            handle: h,
-        },
-        Changed::OutOfRange => ChangedAnswer {
-            number: 2,
-            visits: 0,
-            handle: h,
-        },
-        Changed::WrongSizes => ChangedAnswer {
-            number: 1,
-            visits: 0,
-            handle: h,
-        },
-        Changed::Damage => ChangedAnswer {
-            number: 9,
-            visits: 0,
-            handle: h,
+            visits: refusal.told(),
         },
     }
 }
@@ -202,7 +160,7 @@ pub fn soorqabiye_replace(
     ensures { change result (mem nodes.now slots.new used.now)
         ≡ pass_change (replace_of h key payload (mem nodes.now slots.old used.now)) }
 {
-    passed(store::replace(h, key, payload, nodes, slots, used))
+    ChangedAnswer::from(store::replace(h, key, payload, nodes, slots, used))
 }
 
 pub fn soorqabiye_delete(
@@ -215,17 +173,7 @@ pub fn soorqabiye_delete(
     ensures { change result (mem nodes.now slots.new used.now)
         ≡ pass_change (delete_of h key (mem nodes.now slots.old used.now)) }
 {
-    passed(delete::delete(h, key, nodes, slots, used))
-}
-
-fn refused_list(number: u64) -> ListedAnswer
-    ensures { result ≡ record { number = number; count = 0; more = 0 } }
-{
-    ListedAnswer {
-        number,
-        count: 0,
-        more: 0,
-    }
+    ChangedAnswer::from(delete::delete(h, key, nodes, slots, used))
 }
 
 pub fn soorqabiye_band(
@@ -242,48 +190,16 @@ pub fn soorqabiye_band(
         ≡ pass_band (band_of h u v (mem nodes.now slots.now used.now) keys.old payloads.old) }
 {
     match store::bands::band(h, u, v, nodes, slots, used, keys, payloads) {
-        Listed::Done(count, more) => ListedAnswer {
+        Ok(listed) => ListedAnswer {
             number: 0,
-            count,
-            more,
+            count: listed.count,
+            more: usize::from(listed.more),
         },
-        Listed::WrongSizes => refused_list(1),
-        Listed::OutOfRange => refused_list(2),
-        Listed::Reversed => refused_list(3),
-        Listed::Damage => refused_list(9),
-    }
-}
-
-fn refused_insert(h: Handle, number: u64) -> InsertedAnswer
-    ensures { result ≡ record { number = number; conflict = 0; tidying = 0; handle = h } }
-{
-    InsertedAnswer {
-        number,
-        conflict: 0,
-        tidying: 0,
-        handle: h,
-    }
-}
-
-// An insert's answer in fields.
-fn passed_insert(i: Inserting) -> InsertedAnswer
-    ensures { result ≡ pass_inserting i }
-{
-    let h = i.handle;
-    let a = i.answer;
-    match a {
-        Inserted::Done(conflict, tidying) => InsertedAnswer {
-            number: 0,
-            conflict,
-            tidying,
-            handle: h,
+        Err(refusal) => ListedAnswer {
+            number: refusal.number(),
+            count: 0,
+            more: 0,
         },
-        Inserted::WrongSizes => refused_insert(h, 1),
-        Inserted::OutOfRange => refused_insert(h, 2),
-        Inserted::Held => refused_insert(h, 5),
-        Inserted::Full => refused_insert(h, 7),
-        Inserted::NoRoom => refused_insert(h, 8),
-        Inserted::Damage => refused_insert(h, 9),
     }
 }
 
@@ -303,5 +219,19 @@ pub fn soorqabiye_insert(
         (scratch keys.old payloads.old places.old)) }
 {
     let i = insert::insert(h, key, payload, nodes, slots, used, keys, payloads, places);
-    passed_insert(i)
+    let handle = i.handle;
+    match i.answer {
+        Ok(done) => InsertedAnswer {
+            number: 0,
+            conflict: usize::from(done.conflict),
+            tidying: done.tidying.number(),
+            handle,
+        },
+        Err(refusal) => InsertedAnswer {
+            number: refusal.number(),
+            conflict: 0,
+            tidying: 0,
+            handle,
+        },
+    }
 }

@@ -1,5 +1,5 @@
 -- The code's refusals (document 01, "Numbers of the answers"): which number each has, and which answer it is. Definitions only.
-use Rattle.std.specs.Prelude.{[], ◌∷◌, ℕ, Result, Ok, Err}
+use Rattle.std.specs.Prelude.{[], ◌∷◌, ℕ, get_or, Result, Ok, Err}
 use Rattle.laws.specs.Answers.{Answer, refused, refused_with, wrong_sizes, out_of_range, reversed, not_rising, held, not_held, full, no_room, damage}
 use Rattle.laws.specs.declared.Refusal.{Refusal}
 use Rattle.laws.specs.declared.Refusal.TheVariants.{WrongSizes, OutOfRange, Reversed, NotRising, Held, NotHeld, Full, NoRoom, Damage}
@@ -31,3 +31,7 @@ refusal Damage = refused damage
 abbrev pub status_of : {T : Type 0} → Result T Refusal → ℕ
 status_of (Ok x) = 0
 status_of (Err e) = number_of e
+
+-- the place or the visits of a refusal's answer; 0 where it has none
+abbrev pub told_by : Refusal → ℕ
+told_by e = get_or (refusal e).values 0 0

@@ -5,7 +5,7 @@
 ghost use Rattle.std.specs.Prelude.{◌≡◌, ◌+◌, ◌≤◌, length, drop};
 ghost use Rattle.laws.specs.Bytes.{key_bytes, little_endian};
 ghost use Rattle.laws.specs.Keys.{key_bound};
-ghost use Rattle.laws.specs.Refusals.{number_of};
+ghost use Rattle.laws.specs.Refusals.{number_of, told_by};
 
 use std::error::Error;
 use std::fmt;
@@ -72,6 +72,23 @@ impl Refusal {
             Refusal::Full => 7,
             Refusal::NoRoom => 8,
             Refusal::Damage => 9,
+        }
+    }
+
+    // The place or the visits that it tells; 0 where it tells nothing.
+    pub fn told(self) -> usize
+        ensures { result ≡ told_by self }
+    {
+        match self {
+            Refusal::NotRising(place) => place,
+            Refusal::NotHeld(visits) => visits,
+            Refusal::WrongSizes
+            | Refusal::OutOfRange
+            | Refusal::Reversed
+            | Refusal::Held
+            | Refusal::Full
+            | Refusal::NoRoom
+            | Refusal::Damage => 0,
         }
     }
 }

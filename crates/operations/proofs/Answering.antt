@@ -1,11 +1,9 @@
 -- The line of an answer: a refusal's has its number alone, and that of 0 has what is returned besides. Assumes nothing.
 use mathlib.Core.List.{List, [], ◌∷◌, append-nil}
-use mathlib.Core.Bool.{Bool, true, false}
-use mathlib.Core.Path.{◌≡◌, refl, sym, ap, ◌∙◌}
+use mathlib.Core.Path.{◌≡◌, sym, ap, ◌∙◌}
 use Prim.Native.Nat.{ℕ}
 use borrow.Author.Tests.{ne_eqb}
-use mir.Val.{bool_byte}
-use Rattle.laws.specs.Answers.{Answer, as_number, done}
+use Rattle.laws.specs.Answers.{Answer, done}
 use Rattle.lines.specs.Lines.{digit, line, Text, write}
 use Rattle.lines.proofs.Writing.{then_write}
 use Rattle.store.specs.Bands.{Band, band}
@@ -42,8 +40,3 @@ pub done-band-text : (t u v : Text) (n more : ℕ) (ks ps : List ℕ) (b : Band)
 unfolding band_lines answer_line printed
 done-band-text t u v n more ks ps b d e s =
     then_write t u v (line 52 (0 ∷ n ∷ more ∷ [])) (element_lines ks ps 0 n) d e ∙ ap (λ (x : Band). write t (band_lines x)) s
-
--- a thing that is so or not, turned into a number by the code
-pub converted : (b : Bool) → bool_byte b ≡ as_number b
-converted true = refl
-converted false = refl

@@ -6,4 +6,4 @@ use Rattle.desk.proofs.soorqabiye_delete.Goals as goal
 pub returns : goal.returns
 unfolding pass_change pass_changing
 returns c =
-    rw c.passed.ensures (ap pass_change c.delete.ensures)
+    rw c.from.ensures (ap pass_change c.delete.ensures)

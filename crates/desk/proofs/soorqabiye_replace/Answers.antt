@@ -6,4 +6,4 @@ use Rattle.desk.proofs.soorqabiye_replace.Goals as goal
 pub returns : goal.returns
 unfolding pass_change pass_changing
 returns c =
-    rw c.passed.ensures (ap pass_change c.replace.ensures)
+    rw c.from.ensures (ap pass_change c.replace.ensures)

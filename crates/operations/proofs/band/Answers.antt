@@ -5,7 +5,8 @@ use Prim.Native.Nat.{◌≤◌}
 use native.Mathlib.Omega.{arith}
 use lib.ListN.{length}
 use Rattle.store.specs.Bands.{Band, listed}
-use Rattle.operations.proofs.Answering.{converted, refused-band-text, done-band-text}
+use Rattle.laws.proofs.Answers.{converted}
+use Rattle.operations.proofs.Answering.{refused-band-text, done-band-text}
 use Rattle.operations.proofs.Elements.{band-lists}
 use Rattle.operations.proofs.Refusing.{listed-number, listed-refuses}
 use Rattle.laws.specs.Answers.{as_number}

@@ -2,7 +2,8 @@
 use mathlib.Core.List.{[], ◌∷◌}
 use mathlib.Core.Path.{ap, ◌∙◌}
 use native.Mathlib.Omega.{arith}
-use Rattle.operations.proofs.Answering.{converted, refused-text, done-text}
+use Rattle.laws.proofs.Answers.{converted}
+use Rattle.operations.proofs.Answering.{refused-text, done-text}
 use Rattle.operations.proofs.Refusing.{inserted-number, inserted-refuses}
 use Rattle.insert.specs.Inserting.{Insert, inserted}
 use Rattle.operations.proofs.insert.Goals as goal
