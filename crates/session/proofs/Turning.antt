@@ -2,8 +2,7 @@
 use mathlib.Core.Bool.{Bool}
 use mathlib.Core.List.{List, [], ◌++◌}
 use mathlib.Core.Path.{◌≡◌, sym, ap, ◌∙◌}
-use Prim.Native.Nat.{ℕ, ◌+◌, ◌-◌, ◌≤◌}
-use native.Mathlib.Omega.{arith}
+use Prim.Native.Nat.{ℕ, ◌+◌, ◌-◌}
 use lib.ListN.{length, replicate, take, drop}
 use Rattle.pool.specs.Memory.{Mem, mem}
 use Rattle.rebuild.specs.Rebuilding.{Scratch, scratch}
@@ -12,18 +11,11 @@ use Rattle.store.specs.Loading.{load_of, loaded}
 use Rattle.store.specs.declared.Handle.{Handle}
 use Rattle.store.specs.declared.Loaded.{Loaded}
 use Rattle.store.specs.declared.Loaded.TheVariants.{Done}
-use Rattle.operations.specs.Blocks.{left_after, Rests}
+use Rattle.operations.specs.Blocks.{left_after}
 use Rattle.operations.specs.Runs.{RunsTo}
 use Rattle.operations.specs.Sessions.{start}
 use Rattle.operations.specs.Stepping.{State, state}
 use Rattle.operations.specs.declared.blocks.Pause.{Pause}
-use Rattle.operations.specs.declared.blocks.Pause.TheVariants.{Input, Output, Ended}
-
--- what stays of a block, counted from its front
-pub rests_moved : (p : Pause) (last : Bool) (taken all held : ℕ) → all ≡ held → taken ≤ held → Rests p last taken all → Rests p last 0 (held - taken)
-rests_moved Input last taken all held e t r = (omega (arith, r.0), λ l. omega (arith, r.1 l))
-rests_moved Output last taken all held e t r = tt
-rests_moved Ended last taken all held e t r = tt
 
 -- the rest of the session is that of the bytes moved
 pub turned : (o held taken : ℕ) (input moved printed : List ℕ) (last : Bool) (p : Pause) (s t : State)
