@@ -1,10 +1,9 @@
--- Text written in parts is written whole, and a list that is written into keeps its length. Assumes nothing.
+-- Text written in parts is written whole. Assumes nothing.
 use mathlib.Core.List.{List, [], ◌++◌}
 use mathlib.Core.Path.{◌≡◌, ap, ◌∙◌}
 use Prim.Native.Nat.{ℕ, ◌+◌}
 use native.Mathlib.Omega.{arith}
 use lib.ListN.{length, length-append}
-use lib.Seq.{length-sets}
 use Rattle.laws.proofs.Sets.{sets_append}
 use Rattle.lines.specs.Lines.{Text, write}
 
@@ -18,14 +17,10 @@ pub write-none : (t : Text) → write t [] ≡ t
 unfolding write
 write-none t = let e : t.at + 0 ≡ t.at = omega arith in rw e
 
--- what a write of l leaves: the place past it, in a list as long as before
+-- what a write of l leaves: the place past it
 pub written_at : (t u : Text) (l : List ℕ) → u ≡ write t l → u.at ≡ t.at + length l
 unfolding write
 written_at t u l e = ap (λ (u : Text). u.at) e
-
-pub written_length : (t u : Text) (l : List ℕ) → u ≡ write t l → length u.bytes ≡ length t.bytes
-unfolding write
-written_length t u l e = ap (λ (u : Text). length u.bytes) e ∙ length-sets t.bytes t.at l
 
 -- one write after another
 pub then_write : (t u v : Text) (a b : List ℕ) → u ≡ write t a → v ≡ write u b → v ≡ write t (a ++ b)

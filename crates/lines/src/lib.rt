@@ -79,11 +79,11 @@ fn put_digit(d: u64, out: &mut [u8], at: usize) -> usize
     ensures result_after { text out.new result ≡ write (text out.old at) (digit d ∷ []) }
     ensures value { (result ≡ at + 1) × (length out.new ≡ length out.old) }
 {
-    put(48 + d as u8, out, at)
+    put(b'0' + d as u8, out, at)
 }
 
-// The digits of a number, the most significant first. std's printing doesn't serve without a heap: of `write!` to a slice it doesn't
-// say which bytes are written, and of its fixed text only that it is the number's or ends in dots.
+// The digits of a number, the most significant first. By hand, since what std prints without a heap doesn't say them: `write!` to a
+// slice promises no bytes, and `InlineText` that it is the number's text or ends in dots.
 #[tactic(auto, using(crate::proofs::Decimals::decimal_one, crate::proofs::Decimals::decimal_longer))]
 fn put_decimal(n: u64, out: &mut [u8], at: usize) -> usize
     requires { at + length (decimal n) ≤ length out.old }

@@ -35,9 +35,6 @@ abbrev pub Printed : List ℕ → Bool → ℕ → State → ℕ → List ℕ �
 Printed input last o s₀ at out p s =
     (more : List ℕ) → (last ≡ true → more ≡ []) → session o (input ++ more) s₀ ≡ take at out ++ session (o + p) (drop p input ++ more) s
 
-pub printed-first : (input : List ℕ) (last : Bool) (o : ℕ) (s : State) (out : List ℕ) → Printed input last o s 0 out 0 s
-printed-first input last o s out more q = let z : o + 0 ≡ o = omega arith in rw z
-
 -- the end of the session: all is printed
 abbrev pub AllPrinted : List ℕ → Bool → ℕ → State → ℕ → List ℕ → Type 0
 AllPrinted input last o s₀ at out = (more : List ℕ) → (last ≡ true → more ≡ []) → session o (input ++ more) s₀ ≡ take at out ++ []

@@ -1,14 +1,12 @@
 -- Each operation's step put together: from what its call leaves and what was printed, the whole state and text. Assumes nothing.
 use mathlib.Core.List.{List}
-use mathlib.Core.Path.{◌≡◌, refl, ap, ◌∙◌}
-use Prim.Native.Nat.{ℕ, zero, suc}
-use denote.Enum.Declared.{tag_of}
+use mathlib.Core.Path.{◌≡◌}
+use Prim.Native.Nat.{ℕ}
 use Rattle.delete.specs.Deleting.{delete_of}
 use Rattle.insert.specs.Inserting.{insert_of}
 use Rattle.lines.specs.Lines.{Text, write}
 use Rattle.lines.specs.declared.Operation.{Operation}
 use Rattle.lines.specs.declared.Operation.TheVariants.{Insert as Inserts, Delete, Lookup, Band as Lists, Replace}
-use Rattle.lines.specs.contracts.Operation.{the_type}
 use Rattle.pool.specs.Memory.{Mem}
 use Rattle.rebuild.specs.Rebuilding.{Scratch}
 use Rattle.store.specs.Bands.{band_of}
@@ -16,24 +14,6 @@ use Rattle.store.specs.Calls.{lookup_of, replace_of}
 use Rattle.store.specs.declared.Handle.{Handle}
 use Rattle.operations.specs.Printing.{answer_line, band_lines}
 use Rattle.operations.specs.Stepping.{State, state, first_key, second_key, payload, step_of, stepped, write_step}
-
--- an operation by its place in the enum
-abbrev operation_at : ℕ → Operation
-operation_at zero = Inserts
-operation_at (suc zero) = Delete
-operation_at (suc (suc zero)) = Lookup
-operation_at (suc (suc (suc zero))) = Lists
-operation_at (suc (suc (suc (suc n)))) = Replace
-
-pub by_tag : (o : Operation) → o ≡ operation_at (tag_of the_type o)
-by_tag Inserts = refl
-by_tag Delete = refl
-by_tag Lookup = refl
-by_tag Lists = refl
-by_tag Replace = refl
-
-pub told : (o : Operation) (t : ℕ) → tag_of the_type o ≡ t → o ≡ operation_at t
-told o t k = by_tag o ∙ ap operation_at k
 
 module _ (o : Operation) (body : List ℕ) (s : State) (t u : Text) (k : ℕ) (key : k ≡ first_key body) where
   pub insert_steps : (p : ℕ) → p ≡ payload body → o ≡ Inserts → (h : Handle) (m : Mem) (c : Scratch)

@@ -5,6 +5,7 @@ use mathlib.Core.List.{List, [], ◌++◌, append_assoc}
 use mathlib.Core.Path.{◌≡◌, refl, sym, ap, ◌∙◌}
 use Prim.Native.Nat.{ℕ, ◌+◌, ◌-◌, ◌≤◌}
 use native.Mathlib.Omega.{arith}
+use Rattle.std.proofs.Common.{Option, Some, IsNone, IsTrue, IfSome, ◌↔◌, subst, rules}
 use lib.ListN.{take, drop}
 use lib.Seq.{take-add}
 use Rattle.laws.proofs.Tests.{true_not_false}
@@ -14,7 +15,7 @@ use Rattle.operations.specs.Sessions.{session, start}
 use Rattle.operations.specs.Stepping.{State}
 use Rattle.operations.specs.declared.blocks.Pause.{Pause}
 use Rattle.operations.specs.declared.blocks.Pause.TheVariants.{Input, Output, Ended}
-use Rattle.session.specs.Turns.{over_after, Refilled, SoFar}
+use Rattle.session.specs.Turns.{over_after, Follows, Refilled, SoFar}
 use Rattle.session.specs.declared.Stage.{Stage}
 use Rattle.store.specs.declared.Handle.{Handle}
 
@@ -55,13 +56,19 @@ after_reading last then o held all before after t h k le n =
           (sym (append_assoc (take held before) new come) ∙ ap (λ (l : List ℕ). (l ++ new) ++ come) (sym k) ∙ ap (λ (l : List ℕ). l ++ come) (sym (behind held all after le)));
     }
 
+-- where the session goes on, it was not over
+not_over : {o : Option Stage} (t : Stage) (b : Bool) → o ≡ Some t → (IsNone o ↔ IsTrue b) → b ≡ false
+not_over t true e k = search rules
+not_over t false e k = refl
+
 -- a whole turn of the loop
-pub carried : (last : Bool) (o : ℕ) (held : List ℕ) (s : State) (out : List ℕ) (p : Pause) (f g : Stage) (over : Bool) (before after : List ℕ) (st : Handle → State)
+pub carried : (last : Bool) (o : ℕ) (held : List ℕ) (s : State) (out : List ℕ) (p : Pause) (f g : Stage) (next : Option Stage) (before after : List ℕ) (st : Handle → State)
     → SoFar last o held s → RunsTo last o held s out p f.offset (take f.held before) (st f.handle) → f.last ≡ last
-    → Refilled p f g over before after → over ≡ false
+    → Refilled p f next before after → next ≡ Some g
     → SoFar g.last g.offset (take g.held after) (st g.handle)
-carried last o held s out p f g over before after st h r e k n =
-    let v : over_after p last ≡ false = ap (λ (x : Bool). over_after p x) (sym e) ∙ sym k.over_is ∙ n in
+carried last o held s out p f g next before after st h r e k n =
+    let v : over_after p last ≡ false = ap (λ (x : Bool). over_after p x) (sym e) ∙ not_over g (over_after p f.last) n k.over in
     let a : SoFar last f.offset (take f.held before) (st f.handle) = after_turn last o held s out p f.offset (take f.held before) (st f.handle) h r v in
     let b : SoFar f.last f.offset (take f.held before) (st f.handle) = rw e a in
-    rw (k.offset, k.handle) (after_reading f.last g.last f.offset f.held g.held before after (st f.handle) b k.held k.more k.ended)
+    let w : Follows f g before = subst (λ (x : Option Stage). IfSome x (λ t. Follows f t before)) n k.follows in
+    rw (w.offset, w.handle) (after_reading f.last g.last f.offset f.held g.held before after (st f.handle) b k.held w.more w.ended)

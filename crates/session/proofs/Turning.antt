@@ -2,28 +2,19 @@
 use mathlib.Core.Bool.{Bool}
 use mathlib.Core.List.{List, [], ◌++◌}
 use mathlib.Core.Path.{◌≡◌, sym, ap, ◌∙◌}
-use Prim.Native.Nat.{ℕ, ◌+◌, ◌-◌, ◌≤◌}
-use native.Mathlib.Omega.{arith}
+use Prim.Native.Nat.{ℕ, ◌+◌, ◌-◌}
 use lib.ListN.{length, replicate, take, drop}
 use Rattle.pool.specs.Memory.{Mem, mem}
-use Rattle.rebuild.specs.Rebuilding.{Scratch, scratch}
-use Rattle.store.specs.Calls.{Call}
+use Rattle.rebuild.specs.Rebuilding.{scratch}
 use Rattle.store.specs.Loading.{load_of, loaded}
 use Rattle.store.specs.declared.Handle.{Handle}
 use Rattle.store.specs.declared.Loaded.{Loaded}
 use Rattle.store.specs.declared.Loaded.TheVariants.{Done}
-use Rattle.operations.specs.Blocks.{left_after, Rests}
+use Rattle.operations.specs.Blocks.{left_after}
 use Rattle.operations.specs.Runs.{RunsTo}
 use Rattle.operations.specs.Sessions.{start}
 use Rattle.operations.specs.Stepping.{State, state}
 use Rattle.operations.specs.declared.blocks.Pause.{Pause}
-use Rattle.operations.specs.declared.blocks.Pause.TheVariants.{Input, Output, Ended}
-
--- what stays of a block, counted from its front
-pub rests_moved : (p : Pause) (last : Bool) (taken all held : ℕ) → all ≡ held → taken ≤ held → Rests p last taken all → Rests p last 0 (held - taken)
-rests_moved Input last taken all held e t r = (omega (arith, r.0), λ l. omega (arith, r.1 l))
-rests_moved Output last taken all held e t r = tt
-rests_moved Ended last taken all held e t r = tt
 
 -- the rest of the session is that of the bytes moved
 pub turned : (o held taken : ℕ) (input moved printed : List ℕ) (last : Bool) (p : Pause) (s t : State)
@@ -38,26 +29,13 @@ pub first-lists : (s : State) → s ≡ start → (length s.keys ≡ 64) × (len
 unfolding start
 first-lists s e = (ap (λ (x : State). length x.keys) e, ap (λ (x : State). length x.payloads) e)
 
--- the state after a load that was done
-after-load : (capacity : ℕ) (before m : Mem) (r : Loaded) (h : Handle) (s : Scratch) (ks ps : List ℕ) → r ≡ Done h → loaded r m ≡ load_of capacity [] [] before
-    → state h m s ks ps ≡ state (load_of capacity [] [] before).handle (load_of capacity [] [] before).memory s ks ps
-unfolding loaded
-after-load capacity before m r h s ks ps d e = ap (λ (c : Call). state c.handle c.memory s ks ps) (sym (ap (λ (x : Loaded). loaded x m) d) ∙ e)
-
 -- the empty load into zeros, with zeros in all other lists, is the first state
 pub begun : (nodes slots used : List ℕ) (m : Mem) (r : Loaded) (h : Handle) (keys payloads places ks ps : List ℕ)
     → r ≡ Done h → loaded r m ≡ load_of 512 [] [] (mem nodes slots used)
     → nodes ≡ replicate 2048 0 → slots ≡ replicate 4096 0 → used ≡ replicate 36 0
     → keys ≡ replicate 512 0 → payloads ≡ replicate 512 0 → places ≡ replicate 512 0 → ks ≡ replicate 64 0 → ps ≡ replicate 64 0
     → state h m (scratch keys payloads places) ks ps ≡ start
-unfolding start
+unfolding start loaded
 begun nodes slots used m r h keys payloads places ks ps d e en es eu ek ep ea ef eg =
-    after-load 512 (mem nodes slots used) m r h (scratch keys payloads places) ks ps d e
-    ∙ ap (λ (x : List ℕ). state (load_of 512 [] [] (mem x slots used)).handle (load_of 512 [] [] (mem x slots used)).memory (scratch keys payloads places) ks ps) en
-    ∙ ap (λ (x : List ℕ). state (load_of 512 [] [] (mem (replicate 2048 0) x used)).handle (load_of 512 [] [] (mem (replicate 2048 0) x used)).memory (scratch keys payloads places) ks ps) es
-    ∙ ap (λ (x : List ℕ). state (load_of 512 [] [] (mem (replicate 2048 0) (replicate 4096 0) x)).handle (load_of 512 [] [] (mem (replicate 2048 0) (replicate 4096 0) x)).memory (scratch keys payloads places) ks ps) eu
-    ∙ ap (λ (x : List ℕ). state start.handle start.memory (scratch x payloads places) ks ps) ek
-    ∙ ap (λ (x : List ℕ). state start.handle start.memory (scratch (replicate 512 0) x places) ks ps) ep
-    ∙ ap (λ (x : List ℕ). state start.handle start.memory (scratch (replicate 512 0) (replicate 512 0) x) ks ps) ea
-    ∙ ap (λ (x : List ℕ). state start.handle start.memory start.scratch x ps) ef
-    ∙ ap (λ (x : List ℕ). state start.handle start.memory start.scratch start.keys x) eg
+    let l : load_of 512 [] [] (mem (replicate 2048 0) (replicate 4096 0) (replicate 36 0)) ≡ loaded (Done h) m = sym (rw (d, en, es, eu) at e) in
+    rw (l, ek, ep, ea, ef, eg)

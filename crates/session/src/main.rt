@@ -47,26 +47,6 @@ pub struct Turn {
     pub pause: Pause,
 }
 
-// Where the session stands once more input was read, where any is to be read, and whether it is over.
-#[derive(Clone, Copy)]
-pub struct Onward {
-    pub stage: Stage,
-    pub over: bool,
-}
-
-// The bytes from `from` up to `to`, moved to the front.
-fn move_to_front(input: &mut [u8], from: usize, to: usize)
-    requires { (from ≤ to) × (to ≤ length input.old) }
-    ensures { take (to - from) input.new ≡ drop from (take to input.old) }
-{
-    let n = to - from;
-    let mut i = 0;
-    while i < n {
-        input[i] = input[from + i];
-        i += 1;
-    }
-}
-
 // The operations that are whole in the bytes held; what is left of them is moved to the front.
 fn run_held(
     stage: Stage,
@@ -109,18 +89,16 @@ fn run_held(
         listed_payloads,
         out,
     );
-    move_to_front(input, ran.taken, held);
-    let handle = ran.handle;
-    let pause = ran.pause;
+    input.copy_within(ran.taken..held, 0);
     Turn {
         stage: Stage {
-            handle,
+            handle: ran.handle,
             offset: stage.offset + ran.taken as u64,
             held: held - ran.taken,
             last: stage.last,
         },
         printed: ran.printed,
-        pause,
+        pause: ran.pause,
     }
 }
 
@@ -130,36 +108,29 @@ fn read_more(rt: &(impl Input + Print), input: &mut [u8], held: usize) -> usize
     ensures input_unchanged { take held input.new ≡ take held input.old }
     ensures result_in_bounds { held + result ≤ length input.old }
 {
-    match rt.reader().read(&mut input[held..]) {
-        Ok(got) => got,
-        Err(_) => 0,
-    }
+    rt.reader().read(&mut input[held..]).unwrap_or(0)
 }
 
-// After a turn: more input where the block was used up; over at the session's end and where no more comes.
-fn refill(rt: &(impl Input + Print), pause: Pause, stage: Stage, input: &mut [u8]) -> Onward
+// After a turn: where the session stands once more input was read, if any is to be read; None where it is over, at the session's end
+// and where no more comes.
+fn refill(rt: &(impl Input + Print), pause: Pause, stage: Stage, input: &mut [u8]) -> Option<Stage>
     requires { (stage.held ≤ length input.old) × (Rests pause stage.last 0 stage.held) }
-    ensures { Refilled pause stage result.stage result.over input.old input.new }
+    ensures { Refilled pause stage result input.old input.new }
 {
     match pause {
-        Pause::Ended => Onward { stage, over: true },
-        Pause::Output => Onward { stage, over: false },
+        Pause::Ended => None,
+        Pause::Output => Some(stage),
         Pause::Input => {
             if stage.last {
-                return Onward { stage, over: true };
+                return None;
             }
             let held = stage.held;
             let more = read_more(rt, input, held);
-            let handle = stage.handle;
-            Onward {
-                stage: Stage {
-                    handle,
-                    offset: stage.offset,
-                    held: held + more,
-                    last: more < 1,
-                },
-                over: false,
-            }
+            Some(Stage {
+                held: held + more,
+                last: more == 0,
+                ..stage
+            })
         }
     }
 }
@@ -188,9 +159,8 @@ fn talk(
         held: 0,
         last: false,
     };
-    let mut turns = Stage::TURNS;
-    while 0 < turns {
-        let t = run_held(
+    for _ in 0..Stage::TURNS {
+        let turn = run_held(
             stage,
             input,
             nodes,
@@ -203,65 +173,36 @@ fn talk(
             listed_payloads,
             out,
         );
-        let printed = t.printed;
-        if rt.write_all(&out[..printed]).is_err() {
+        if rt.write_all(&out[..turn.printed]).is_err() {
             return;
         }
-        let reached = t.stage;
-        let pause = t.pause;
-        let next = refill(rt, pause, reached, input);
-        if next.over {
+        let Some(next) = refill(rt, turn.pause, turn.stage, input) else {
             return;
-        }
-        stage = next.stage;
-        turns -= 1;
+        };
+        stage = next;
     }
 }
 
-// Zeros for each of the lists; each is made by a function of its own, so that its elements are named by one term in the proof of `main`.
-fn empty_nodes() -> [u64; Stage::RECORDS * Node::RECORD_WORDS]
-    ensures { (result ≡ replicate 2048 0) × (2048 ≡ length result) }
+// A function of its own, so that the elements of a list are named by one term in the proof of `main`.
+fn zeros<const N: usize>() -> [u64; N]
+    ensures { result ≡ replicate N 0 }
 {
-    [0; Stage::RECORDS * Node::RECORD_WORDS]
-}
-
-fn empty_slots() -> [u64; Stage::SLOTS * Node::SLOT_WORDS]
-    ensures { (result ≡ replicate 4096 0) × (4096 ≡ length result) }
-{
-    [0; Stage::SLOTS * Node::SLOT_WORDS]
-}
-
-fn empty_map() -> [u64; Stage::MAP_WORDS]
-    ensures { (result ≡ replicate 36 0) × (36 ≡ length result) }
-{
-    [0; Stage::MAP_WORDS]
-}
-
-fn empty_scratch() -> [u64; Stage::CAPACITY]
-    ensures { (result ≡ replicate 512 0) × (512 ≡ length result) }
-{
-    [0; Stage::CAPACITY]
-}
-
-fn empty_list() -> [u64; Next::LONGEST_LIST]
-    ensures { (result ≡ replicate 64 0) × (64 ≡ length result) }
-{
-    [0; Next::LONGEST_LIST]
+    [0; N]
 }
 
 fn main(rt: HostRuntime) {
-    let mut nodes = empty_nodes();
-    let mut slots = empty_slots();
-    let mut used = empty_map();
+    let mut nodes: [u64; Stage::RECORDS * Node::RECORD_WORDS] = zeros();
+    let mut slots: [u64; Stage::SLOTS * Node::SLOT_WORDS] = zeros();
+    let mut used = zeros::<{ Stage::MAP_WORDS }>();
     let loaded = store::load(Stage::CAPACITY, &[], &[], &mut nodes, &mut slots, &mut used);
     let Loaded::Done(h) = loaded else {
         return;
     };
-    let mut keys = empty_scratch();
-    let mut payloads = empty_scratch();
-    let mut places = empty_scratch();
-    let mut listed_keys = empty_list();
-    let mut listed_payloads = empty_list();
+    let mut keys = zeros::<{ Stage::CAPACITY }>();
+    let mut payloads = zeros::<{ Stage::CAPACITY }>();
+    let mut places = zeros::<{ Stage::CAPACITY }>();
+    let mut listed_keys = zeros::<{ Next::LONGEST_LIST }>();
+    let mut listed_payloads = zeros::<{ Next::LONGEST_LIST }>();
     let mut input = [0u8; 65536];
     let mut out = [0u8; 65536];
     talk(

@@ -1,14 +1,10 @@
--- `session::run_held` meets its contract (proofs/Turning). Assumes nothing.
-use mathlib.Core.Path.{sym}
-use native.Mathlib.Omega.{arith}
-use lib.Seq.{length-take-le}
+use Rattle.std.proofs.Common.{arith}
+use Rattle.std.proofs.lemmas.List.{length-take}
+use Rattle.session.proofs.Moves.{copied_front}
+use Rattle.session.proofs.Turning.{turned}
 use Rattle.session.proofs.run_held.Goals as goal
 
-pub slice_bounds-run-end-2 : goal.slice_bounds-run-end-2
-slice_bounds-run-end-2 c = sym (length-take-le c.args.stage.held c.args.input.now c.requires.held_in_bounds.0)
-
-pub run-ran-requires : goal.run-ran-requires
-run-ran-requires c = record { input_bound = omega (arith, c.requires.held_in_bounds.1, length-take-le c.args.stage.held c.args.input.now c.requires.held_in_bounds.0); listed_keys_len_bound = c.requires.listed_keys_len_bound }
-
-pub move_to_front-requires : goal.move_to_front-requires
-move_to_front-requires c = (omega (arith, c.run-ran.ensures.printed_in_bounds, length-take-le c.args.stage.held c.args.input.now c.requires.held_in_bounds.0), c.requires.held_in_bounds.0)
+pub returns-clause-runs_to : goal.returns-clause-runs_to
+returns-clause-runs_to c =
+    let m = copied_front c.args.input.now _ c.run-ran.result.taken c.args.stage.held (omega (arith, length-take c.args.stage.held c.args.input.now)) (omega arith) c.copy_within.ensures.after in
+    turned _ _ _ _ _ _ _ _ _ _ c.run-ran.ensures.by_index m
