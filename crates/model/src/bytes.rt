@@ -7,21 +7,15 @@ use crate::keys::Keys;
 use crate::{Choice, Model, keys};
 use laws::{Key, Refusal};
 
-fn wide(b: u8) -> u64
-    ensures { (result ≡ b) × (result < 256) }
-{
-    b as u64
-}
-
 // Three bytes from p on, lowest first. A key is read as two of them, not by laws::little_endian: with that, model choice over
 // 16,384 keys took 17.6 ms for 15.4 where T is 1,649.
 fn three(bytes: &[u8], p: usize) -> u64
     requires { p + 3 ≤ length bytes.now }
     ensures { (result ≡ get_or bytes.now p 0 + 256 * (get_or bytes.now (p + 1) 0 + 256 * get_or bytes.now (p + 2) 0)) × (result < 16777216) }
 {
-    let a = wide(bytes[p]);
-    let b = wide(bytes[p + 1]);
-    let c = wide(bytes[p + 2]);
+    let a = u64::from(bytes[p]);
+    let b = u64::from(bytes[p + 1]);
+    let c = u64::from(bytes[p + 2]);
     a + 256 * (b + 256 * c)
 }
 
