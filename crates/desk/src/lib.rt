@@ -15,7 +15,6 @@ ghost use Rattle.store.specs.Loading.{load_of};
 ghost use Rattle.desk.specs.Passing.{pass_sounding, pass_load, load, pass_looked, pass_change, pass_changing, change, pass_band, listing, pass_insert, pass_inserting, insertion};
 
 use insert::{Inserted, Inserting};
-use sounding::Unpacked;
 use store::{Changed, Changing, Handle, Listed, Loaded, Looked};
 
 #[repr(C)]
@@ -70,7 +69,7 @@ pub struct InsertedAnswer {
 pub fn soorqabiye_unpack(key: u64) -> SoundingAnswer
     ensures { result ≡ pass_sounding (unpack_of key) }
 {
-    let Unpacked::Of(s) = sounding::unpack(key) else {
+    let Ok(s) = sounding::unpack(key) else {
         return SoundingAnswer {
             number: 2,
             depth: 0,

@@ -3,24 +3,19 @@ use lib.IntN.{ℤ}
 use mir.Syntax.{w64}
 use mir.Val.{SFits}
 use mir.ValLaws.{to_z-of_z}
-use mathlib.Core.Path.{◌≡◌, sym, ap, ◌∙◌}
+use mathlib.Core.Path.{ap, ◌∙◌}
 use Rattle.sounding.specs.Studio.{unpacked}
-use Rattle.sounding.specs.declared.Unpacked.{Unpacked}
-use Rattle.sounding.specs.declared.Unpacked.TheVariants.{OutOfRange}
 use Rattle.desk.specs.Passing.{pass_sounding}
 use borrow.Author.Rules.{rules}
 use Rattle.desk.proofs.soorqabiye_unpack.Goals as goal
 
 pub returns-in_default : goal.returns-in_default
 unfolding pass_sounding unpacked
-returns-in_default c =
-    let e : c.unpack.result ≡ OutOfRange = cc in
-    ap (λ (p : Unpacked). pass_sounding (unpacked p)) (sym e) ∙ ap pass_sounding c.unpack.ensures
+returns-in_default c = ap pass_sounding c.in_default.ensures
 
 pub returns : goal.returns
 unfolding pass_sounding unpacked
 returns c =
-    let s = c.in-Of.s in
+    let s = c.in-Ok.s in
     let f : SFits w64 s.depth = search rules in
-    ap (λ (d : ℤ). record { number = 0; depth = d; sounding = s.number }) (to_z-of_z w64 s.depth f)
-    ∙ ap (λ (p : Unpacked). pass_sounding (unpacked p)) (sym c.in-Of.is) ∙ ap pass_sounding c.unpack.ensures
+    ap (λ (d : ℤ). record { number = 0; depth = d; sounding = s.number }) (to_z-of_z w64 s.depth f) ∙ ap pass_sounding c.in-Ok.ensures
