@@ -3,7 +3,7 @@
 -- that it is lent for writing, as they are at the exit, in one record; and that any two such records are the same. A list that is lent
 -- for reading alone has no exit of its own: nobody can write to it. The proof is proofs/Coincide; that a call's contract is what is quoted
 -- of it is proved in crates/quoted.
-use Rattle.std.specs.Prelude.{List, ◌≡◌, ℕ, ℤ}
+use Rattle.std.specs.Prelude.{List, ◌≡◌, ℕ, ℤ, Result}
 use Rattle.delete.specs.Deleting.{delete_of}
 use Rattle.desk.specs.Passing.{pass_sounding, pass_load, load, pass_looked, pass_change, change, pass_band, listing, pass_insert, insertion as desk_insertion}
 use Rattle.desk.specs.declared.ChangedAnswer.{ChangedAnswer}
@@ -18,16 +18,16 @@ use Rattle.edge.specs.declared.ModelAnswer.{ModelAnswer}
 use Rattle.edge.specs.declared.SlotAnswer.{SlotAnswer}
 use Rattle.insert.specs.Inserting.{insertion, inserted, insert_of}
 use Rattle.insert.specs.declared.Inserting.{Inserting}
+use Rattle.laws.specs.declared.Refusal.{Refusal}
 use Rattle.model.specs.Choice.{model_choice, chosen}
 use Rattle.model.specs.Slots.{slot_choice, slotted}
-use Rattle.model.specs.declared.Chosen.{Chosen}
+use Rattle.model.specs.declared.Choice.{Choice}
 use Rattle.model.specs.declared.Model.{Model}
-use Rattle.model.specs.declared.Slotted.{Slotted}
 use Rattle.pool.specs.Memory.{mem}
 use Rattle.rebuild.specs.Rebuilding.{scratch}
 use Rattle.sounding.specs.Studio.{pack_of, packed, unpack_of, unpacked}
-use Rattle.sounding.specs.declared.Packed.{Packed}
-use Rattle.sounding.specs.declared.Unpacked.{Unpacked}
+use Rattle.sounding.specs.declared.OutOfRange.{OutOfRange}
+use Rattle.sounding.specs.declared.Sounding.{Sounding}
 use Rattle.store.specs.Bands.{band, band_of, listed}
 use Rattle.store.specs.Calls.{call, lookup_of, replace_of, looked, changed}
 use Rattle.store.specs.Loading.{load_of, loaded}
@@ -67,16 +67,16 @@ abbrev pub One : {X : Type 0} → (X → Type 0) → Type 0
 One {X} allowed = (x y : X) → allowed x → allowed y → x ≡ y
 
 -- what the contracts of the calls in Rattle allow
-abbrev pub Pack : ℤ → ℕ → Packed → Type 0
+abbrev pub Pack : ℤ → ℕ → Result ℕ OutOfRange → Type 0
 Pack depth number r = packed r ≡ pack_of depth number
 
-abbrev pub Unpack : ℕ → Unpacked → Type 0
+abbrev pub Unpack : ℕ → Result Sounding OutOfRange → Type 0
 Unpack key r = unpacked r ≡ unpack_of key
 
-abbrev pub SlotChoice : ℕ → Model → Slotted → Type 0
+abbrev pub SlotChoice : ℕ → Model → Result ℕ Refusal → Type 0
 SlotChoice key m r = slotted r ≡ slot_choice key m
 
-abbrev pub ModelChoice : List ℕ → Chosen → Type 0
+abbrev pub ModelChoice : List ℕ → Result Choice Refusal → Type 0
 ModelChoice bytes r = chosen r ≡ model_choice bytes
 
 abbrev pub Load : ℕ → List ℕ → List ℕ → List ℕ → List ℕ → List ℕ → WithPools Loaded → Type 0

@@ -1,11 +1,23 @@
 // Model choice over keys of 6 bytes, lowest byte first, as the engine hands them over.
-ghost use Rattle.std.specs.Prelude.{◌≡◌};
+ghost use Rattle.std.specs.Prelude.{◌≡◌, ℕ, ◌+◌, ◌*◌, ◌<◌, ◌≤◌, length, get_or};
 ghost use Rattle.laws.specs.Bytes.{keys_in};
 ghost use Rattle.model.specs.Choice.{model_choice, chosen};
 
 use crate::keys::Keys;
 use crate::{Choice, Model, keys};
 use laws::{Key, Refusal};
+
+// Three bytes from p on, lowest first. A key is read as two of them, not by laws::little_endian: with that, model choice over
+// 16,384 keys took 17.6 ms for 15.4 where T is 1,649.
+fn three(bytes: &[u8], p: usize) -> u64
+    requires { p + 3 ≤ length bytes.now }
+    ensures { (result ≡ get_or bytes.now p 0 + 256 * (get_or bytes.now (p + 1) 0 + 256 * get_or bytes.now (p + 2) 0)) × (result < 16777216) }
+{
+    let a = u64::from(bytes[p]);
+    let b = u64::from(bytes[p + 1]);
+    let c = u64::from(bytes[p + 2]);
+    a + 256 * (b + 256 * c)
+}
 
 #[derive(Clone, Copy)]
 struct KeyBytes<'a> {
@@ -20,9 +32,12 @@ impl Keys for KeyBytes<'_> {
         self.bytes.len() / Key::BYTES
     }
 
-    #[tactic(auto, using(laws::proofs::Bytes::length_in, laws::proofs::Bytes::key_in))]
+    #[tactic(auto, using(laws::proofs::Bytes::length_in, laws::proofs::Bytes::key_halves))]
     fn at(self, i: usize) -> u64 {
-        laws::little_endian::<{ Key::BYTES }>(self.bytes, i * Key::BYTES)
+        let p = i * Key::BYTES;
+        let low = three(self.bytes, p);
+        let high = three(self.bytes, p + 3);
+        low + 16777216 * high
     }
 }
 

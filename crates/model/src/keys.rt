@@ -68,22 +68,19 @@ fn is_spread<K: Keys>(keys: K, m: Model, t: u16) -> bool
     true
 }
 
+#[tactic(auto, unfolding(crate::specs::Choice::slots_for))]
 fn slots_for(n: usize) -> u64
+    requires { n ≤ most_keys }
     ensures { result ≡ slots_for n }
 {
-    if n < 2 {
-        return Model::LEAST_SLOTS;
-    }
-    if n < (Model::MOST_SLOTS / 2) as usize {
-        2 * n as u64
-    } else {
-        Model::MOST_SLOTS
-    }
+    (2 * n as u64).clamp(Model::LEAST_SLOTS, Model::MOST_SLOTS)
 }
 
 // The model that leaves t keys to each end.
+#[tactic(auto, unfolding(crate::specs::Choice::model_at))]
 fn model_at<K: Keys>(keys: K, t: usize) -> Model
     requires rising { Rising (K.keys keys) }
+    requires few { length (K.keys keys) ≤ most_keys }
     requires t_in_bounds { t + t < length (K.keys keys) }
     ensures { result ≡ model_at (K.keys keys) t }
 {

@@ -9,29 +9,30 @@ use desk::{
 };
 use edge::{KeyAnswer, ModelAnswer, SlotAnswer};
 use insert::Inserting;
-use model::{Chosen, Model, Slotted};
-use sounding::{Packed, Unpacked};
+use laws::Refusal;
+use model::{Choice, Model};
+use sounding::{OutOfRange, Sounding};
 use store::{Changing, Handle, Listed, Loaded, Looked};
 
-pub fn pack(depth: i64, number: u64) -> Packed
+pub fn pack(depth: i64, number: u64) -> Result<u64, OutOfRange>
     ensures { Pack depth number result }
 {
     sounding::pack(depth, number)
 }
 
-pub fn unpack(key: u64) -> Unpacked
+pub fn unpack(key: u64) -> Result<Sounding, OutOfRange>
     ensures { Unpack key result }
 {
     sounding::unpack(key)
 }
 
-pub fn slot_choice(key: u64, m: Model) -> Slotted
+pub fn slot_choice(key: u64, m: Model) -> Result<u64, Refusal>
     ensures { SlotChoice key m result }
 {
     model::slot_choice(key, m)
 }
 
-pub fn model_choice(bytes: &[u8]) -> Chosen
+pub fn model_choice(bytes: &[u8]) -> Result<Choice, Refusal>
     ensures { ModelChoice bytes.now result }
 {
     model::bytes::model_choice(bytes)

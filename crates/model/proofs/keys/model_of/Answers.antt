@@ -1,8 +1,6 @@
 -- `model::keys::model_of` meets its contract. The loop tries 1, 2, .. and stays at or before the T of the definition, which exists
 -- (proofs/Least): that is why it finds one. Assumes nothing.
-use Prim.Native.Nat.{◌≤◌}
 use native.Mathlib.Omega.{arith}
-use lib.ListN.{length}
 use Rattle.model.specs.Choice.{empty_model}
 use Rattle.model.proofs.Least.{t-least, try_within, try_in_range, try_passes, try_fails, few-choice, empty-choice}
 use Rattle.model.proofs.keys.model_of.Goals as goal
