@@ -34,7 +34,8 @@ pub fn little_endian<const N: usize>(bytes: &[u8], p: usize) -> u64
     requires in_bounds { p + N ≤ length bytes.now }
     ensures { result ≡ little_endian N (drop p bytes.now) }
 {
-    // Byte by byte: copy_from_slice at a constant N keeps a loop over memory, and model choice took twice the time.
+    // Byte by byte, which the compiler makes two loads at N = 6. With copy_from_slice it stays a loop over memory: a model choice that
+    // read its keys so took twice the time.
     let mut eight = [0; 8];
     for i in 0..N {
         eight[i] = bytes[p + i];
