@@ -19,8 +19,10 @@ use Rattle.pool.specs.Writing.{put_null}
 use Rattle.store.proofs.Fitting.{Limits, fits_given}
 use Rattle.store.specs.Calls.{Call, call, search_end, search_of, answer_by, lookup_of, replace_of}
 use Rattle.store.specs.declared.Handle.{Handle}
-use Rattle.store.specs.declared.Search.{Search}
-use Rattle.store.specs.declared.Search.TheVariants.{At, NotThere}
+use Rattle.std.specs.Prelude.{Result, Ok, Err}
+use Rattle.laws.specs.declared.Refusal.{Refusal}
+use Rattle.laws.specs.declared.Refusal.TheVariants.{NotHeld}
+use Rattle.store.specs.declared.Held.{Held}
 use Rattle.walk.specs.Walks.{walk, walk_of}
 use Rattle.demands.specs.Demand2.{visits, found_as, LookupAnswers, same, Changes, ReplaceAnswers, DeleteAnswers, root_of}
 use Rattle.demands.specs.Map.{Map, EachKey, is, nil as none, member, lookup, insert, delete, update, size}
@@ -35,10 +37,10 @@ use Rattle.demands.proofs.Walking.{Kept, place_of, records_on, records-length, e
 use Rattle.demands.proofs.Ways.{Way, way, path-plug, graft_plug}
 
 -- what the calls find on a key's way
-abbrev pub search_as : ℕ → ℕ → ℕ → Branch → Search
-search_as k v q null = NotThere v
-search_as k v q (leaf j p) = pick (eqb j k) (At q v) (NotThere v)
-search_as k v q (sub h g) = NotThere v
+abbrev pub search_as : ℕ → ℕ → ℕ → Branch → Result Held Refusal
+search_as k v q null = Err (NotHeld v)
+search_as k v q (leaf j p) = pick (eqb j k) (Ok (record { slot = q; visits = v })) (Err (NotHeld v))
+search_as k v q (sub h g) = Err (NotHeld v)
 
 search-end : (k v q : ℕ) (b : Branch) (e : End b) → search_end k v (end_to q b e) ≡ search_as k v q b
 unfolding search_end
@@ -92,7 +94,7 @@ found_at : (ss : List ℕ) (k v q : ℕ) (b : Branch) → End b → get_or ss (q
 found_at ss k v q null e p = refl
 found_at ss k v q (leaf j x) e p = go (eqb j k)
   where
-    go : (b : Bool) → answer_by {A = Answer ℕ} (λ a. a) (λ q v. done (get_or ss (q * 2 + 1) 0 ∷ v ∷ [])) (pick b (At q v) (NotThere v)) ≡ found_as v (pick b (is x) none)
+    go : (b : Bool) → answer_by {A = Answer ℕ} (λ a. a) (λ q v. done (get_or ss (q * 2 + 1) 0 ∷ v ∷ [])) (pick b (Ok (record { slot = q; visits = v })) (Err (NotHeld v))) ≡ found_as v (pick b (is x) none)
     go true = ap (λ (y : ℕ). done (y ∷ v ∷ [])) p
     go false = refl
 found_at ss k v q (sub h g) e p = absurd e
@@ -201,7 +203,7 @@ module _ (h : Handle) (m : Mem) (t : Head) (g : Forest) (d : Good h m t g) (k : 
       less : h.count - 1 ≡ size (pre_c (f ∷ c)) + size (post_c (f ∷ c))
       less = omega (arith, count_is)
 
-  module _ (found : search_of h k m ≡ At place (visits k t g)) (mem_is : member k (flat_f g) ≡ true) where
+  module _ (found : search_of h k m ≡ Ok (record { slot = place; visits = visits k t g })) (mem_is : member k (flat_f g) ≡ true) where
     replace-held : (p : ℕ) → Changes h m t g k (replace_of h k p m) h (leaf k p) (update k p (flat_f g))
     unfolding replace_of
     replace-held p =
@@ -216,7 +218,7 @@ module _ (h : Handle) (m : Mem) (t : Head) (g : Forest) (d : Good h m t g) (k : 
         (subst⁻¹ (Holds (one_less h) (mem m.nodes (put_null m.slots place) m.used)) (graft_is null) delete-holds) (ap flat_b (graft_is null) ∙ flat_deleted)
 
 -- the way of k ends elsewhere
-module _ (h : Handle) (m : Mem) (t : Head) (g : Forest) (k : ℕ) (found : search_of h k m ≡ NotThere (visits k t g)) (mem_is : member k (flat_f g) ≡ false) where
+module _ (h : Handle) (m : Mem) (t : Head) (g : Forest) (k : ℕ) (found : search_of h k m ≡ Err (NotHeld (visits k t g))) (mem_is : member k (flat_f g) ≡ false) where
   replace_not : (p : ℕ) → Changes h m t g k (replace_of h k p m) h (leaf k p) (update k p (flat_f g))
   unfolding replace_of
   replace_not p = changes_not h m t g k _ h (leaf k p) _ mem_is (rw found)
@@ -241,7 +243,7 @@ module _ (h : Handle) (m : Mem) (t : Head) (g : Forest) (d : Good h m t g) (k : 
       held i (s ∙ rw x) (y ∙ rw x))
       (λ x. (replace_not h m t g k (s ∙ rw x) (y ∙ rw x), delete_not h m t g k (s ∙ rw x) (y ∙ rw x)))
     where
-      held : j ≡ k → search_of h k m ≡ At (place_of f c) (visits k t g) → member k (flat_f g) ≡ true
+      held : j ≡ k → search_of h k m ≡ Ok (record { slot = place_of f c; visits = visits k t g }) → member k (flat_f g) ≡ true
           → ((p : ℕ) → Changes h m t g k (replace_of h k p m) h (leaf k p) (update k p (flat_f g))) × Changes h m t g k (delete_of h k m) (one_less h) null (delete k (flat_f g))
       held i s1 y1 =
           let eq1 = subst (λ (x : ℕ). sub t g ≡ plug (f ∷ c) (leaf x q)) i eq in

@@ -12,10 +12,11 @@ use Rattle.desk.specs.declared.ChangedAnswer.{ChangedAnswer}
 use Rattle.desk.specs.declared.InsertedAnswer.{InsertedAnswer}
 use Rattle.desk.specs.declared.ListedAnswer.{ListedAnswer}
 use Rattle.desk.specs.declared.LoadedAnswer.{LoadedAnswer}
-use Rattle.insert.specs.Inserting.{Insert, insertion, inserted}
+use Rattle.insert.specs.Inserting.{Insert, insertion, inserted, tidying_number}
 use Rattle.insert.specs.declared.Inserted.{Inserted}
-use Rattle.insert.specs.declared.Inserting.{Inserting}
-use Rattle.laws.specs.Answers.{Answer, wrong_sizes, out_of_range, reversed, not_rising, held, not_held, full, no_room}
+use Rattle.insert.specs.declared.Tidying.{Tidying}
+use Rattle.insert.specs.declared.Tidying.TheVariants.{NotDue, Tidied, PutOff, WholeTree}
+use Rattle.laws.specs.Answers.{Answer, as_number}
 use Rattle.laws.specs.Pick.{pick}
 use Rattle.model.proofs.Answering.{slotted-one, chosen-one}
 use Rattle.model.specs.Choice.{chosen}
@@ -27,11 +28,12 @@ use Rattle.sounding.specs.Studio.{packed, unpacked}
 use Rattle.store.specs.Bands.{Band, band, listed}
 use Rattle.store.specs.Calls.{Call, call, looked, changed}
 use Rattle.store.specs.Loading.{loaded}
-use Rattle.store.specs.declared.Changed.{Changed}
 use Rattle.store.specs.declared.Changing.{Changing}
 use Rattle.store.specs.declared.Handle.{Handle}
-use Rattle.store.specs.declared.Listed.{Listed}
-use Rattle.store.specs.declared.Loaded.{Loaded}
+use Rattle.listing.specs.declared.Listed.{Listed}
+use Rattle.std.specs.Prelude.{Bool, true, false, Result, Ok, Err}
+use Rattle.laws.proofs.Refusals.{refusal_in, back-refused}
+use Rattle.laws.specs.declared.Refusal.{Refusal}
 use Rattle.store.specs.declared.Looked.{Looked}
 
 -- The argument. What is told of an exit is told of that exit alone: then it coincides with every other that tells the same.
@@ -48,109 +50,82 @@ pub itself : {X : Type 0} → Injective (λ (x : X). x)
 itself x y e = e
 
 -- From an answer back to the case of the code's enum: by its number, with what is returned besides.
-back_looked : Answer ℕ → Looked
-back_looked a =
-    pick (eqb a.number 0) (Looked.Found (get_or a.values 0 0) (get_or a.values 1 0))
-    (pick (eqb a.number not_held) (Looked.NotHeld (get_or a.values 0 0))
-    (pick (eqb a.number out_of_range) Looked.OutOfRange
-    (pick (eqb a.number wrong_sizes) Looked.WrongSizes Looked.Damage)))
+back_looked : Answer ℕ → Result Looked Refusal
+back_looked a = pick (eqb a.number 0) (Ok (record { payload = get_or a.values 0 0; visits = get_or a.values 1 0 })) (Err (refusal_in a))
 
-looked_back : (r : Looked) → back_looked (looked r) ≡ r
+looked_back : (r : Result Looked Refusal) → back_looked (looked r) ≡ r
 unfolding looked back_looked
-looked_back (Looked.Found p v) = refl
-looked_back (Looked.NotHeld v) = refl
-looked_back Looked.OutOfRange = refl
-looked_back Looked.WrongSizes = refl
-looked_back Looked.Damage = refl
+looked_back (Ok l) = refl
+looked_back (Err e) = back-refused _ e
 
 pub looked_injective : Injective looked
 looked_injective = told looked back_looked looked_back
 
-back_changed : Answer ℕ → Changed
-back_changed a =
-    pick (eqb a.number 0) Changed.Done
-    (pick (eqb a.number not_held) (Changed.NotHeld (get_or a.values 0 0))
-    (pick (eqb a.number out_of_range) Changed.OutOfRange
-    (pick (eqb a.number wrong_sizes) Changed.WrongSizes Changed.Damage)))
+back_changed : Answer ℕ → Result (Unit {0}) Refusal
+back_changed a = pick (eqb a.number 0) (Ok tt) (Err (refusal_in a))
 
-changed_back : (r : Changed) → back_changed (changed r) ≡ r
+changed_back : (r : Result (Unit {0}) Refusal) → back_changed (changed r) ≡ r
 unfolding changed back_changed
-changed_back Changed.Done = refl
-changed_back (Changed.NotHeld v) = refl
-changed_back Changed.OutOfRange = refl
-changed_back Changed.WrongSizes = refl
-changed_back Changed.Damage = refl
+changed_back (Ok u) = refl
+changed_back (Err e) = back-refused _ e
 
-back_listed : Answer ℕ → Listed
-back_listed a =
-    pick (eqb a.number 0) (Listed.Done (get_or a.values 0 0) (get_or a.values 1 0))
-    (pick (eqb a.number wrong_sizes) Listed.WrongSizes
-    (pick (eqb a.number out_of_range) Listed.OutOfRange
-    (pick (eqb a.number reversed) Listed.Reversed Listed.Damage)))
+-- the number of a thing that is so or not, read back
+so_back : (b : Bool) → eqb (as_number b) 1 ≡ b
+so_back true = refl
+so_back false = refl
 
-listed_back : (r : Listed) → back_listed (listed r) ≡ r
+back_listed : Answer ℕ → Result Listed Refusal
+back_listed a = pick (eqb a.number 0) (Ok (record { count = get_or a.values 0 0; more = eqb (get_or a.values 1 0) 1 })) (Err (refusal_in a))
+
+listed_back : (r : Result Listed Refusal) → back_listed (listed r) ≡ r
 unfolding listed back_listed
-listed_back (Listed.Done n more) = refl
-listed_back Listed.WrongSizes = refl
-listed_back Listed.OutOfRange = refl
-listed_back Listed.Reversed = refl
-listed_back Listed.Damage = refl
+listed_back (Ok l) = ap (λ (b : Bool). Ok (record { count = l.count; more = b })) (so_back l.more)
+listed_back (Err e) = back-refused _ e
 
-back_inserted : Answer ℕ → Inserted
+tidying_in : ℕ → Tidying
+tidying_in n = pick (eqb n 0) NotDue (pick (eqb n 1) Tidied (pick (eqb n 2) PutOff WholeTree))
+
+tidying_back : (t : Tidying) → tidying_in (tidying_number t) ≡ t
+unfolding tidying_in
+tidying_back NotDue = refl
+tidying_back Tidied = refl
+tidying_back PutOff = refl
+tidying_back WholeTree = refl
+
+back_inserted : Answer ℕ → Result Inserted Refusal
 back_inserted a =
-    pick (eqb a.number 0) (Inserted.Done (get_or a.values 0 0) (get_or a.values 1 0))
-    (pick (eqb a.number wrong_sizes) Inserted.WrongSizes
-    (pick (eqb a.number out_of_range) Inserted.OutOfRange
-    (pick (eqb a.number held) Inserted.Held
-    (pick (eqb a.number full) Inserted.Full
-    (pick (eqb a.number no_room) Inserted.NoRoom Inserted.Damage)))))
+    pick (eqb a.number 0) (Ok (record { conflict = eqb (get_or a.values 0 0) 1; tidying = tidying_in (get_or a.values 1 0) })) (Err (refusal_in a))
 
-inserted_back : (r : Inserted) → back_inserted (inserted r) ≡ r
+inserted_back : (r : Result Inserted Refusal) → back_inserted (inserted r) ≡ r
 unfolding inserted back_inserted
-inserted_back (Inserted.Done c t) = refl
-inserted_back Inserted.WrongSizes = refl
-inserted_back Inserted.OutOfRange = refl
-inserted_back Inserted.Held = refl
-inserted_back Inserted.Full = refl
-inserted_back Inserted.NoRoom = refl
-inserted_back Inserted.Damage = refl
+inserted_back (Ok d) =
+    ap (λ (b : Bool). Ok (record { conflict = b; tidying = tidying_in (tidying_number d.tidying) })) (so_back d.conflict)
+    ∙ ap (λ (t : Tidying). Ok (record { conflict = d.conflict; tidying = t })) (tidying_back d.tidying)
+inserted_back (Err e) = back-refused _ e
 
 -- a load that is done tells its handle
-back_loaded : Answer ℕ → Handle → Loaded
-back_loaded a h =
-    pick (eqb a.number 0) (Loaded.Done h)
-    (pick (eqb a.number wrong_sizes) Loaded.WrongSizes
-    (pick (eqb a.number full) Loaded.Full
-    (pick (eqb a.number out_of_range) Loaded.OutOfRange
-    (pick (eqb a.number not_rising) (Loaded.NotRising (get_or a.values 0 0)) Loaded.NoRoom))))
+back_loaded : Answer ℕ → Handle → Result Handle Refusal
+back_loaded a h = pick (eqb a.number 0) (Ok h) (Err (refusal_in a))
 
-loaded_back : (r : Loaded) (m : Mem) → back_loaded (loaded r m).answer (loaded r m).handle ≡ r
+loaded_back : (r : Result Handle Refusal) (m : Mem) → back_loaded (loaded r m).answer (loaded r m).handle ≡ r
 unfolding loaded back_loaded
-loaded_back (Loaded.Done h) m = refl
-loaded_back Loaded.WrongSizes m = refl
-loaded_back Loaded.Full m = refl
-loaded_back Loaded.OutOfRange m = refl
-loaded_back (Loaded.NotRising p) m = refl
-loaded_back Loaded.NoRoom m = refl
+loaded_back (Ok h) m = refl
+loaded_back (Err e) m = back-refused _ e
 
-loaded-memory : (r : Loaded) (m : Mem) → (loaded r m).memory ≡ m
+loaded-memory : (r : Result Handle Refusal) (m : Mem) → (loaded r m).memory ≡ m
 unfolding loaded
-loaded-memory (Loaded.Done h) m = refl
-loaded-memory Loaded.WrongSizes m = refl
-loaded-memory Loaded.Full m = refl
-loaded-memory Loaded.OutOfRange m = refl
-loaded-memory (Loaded.NotRising p) m = refl
-loaded-memory Loaded.NoRoom m = refl
+loaded-memory (Ok h) m = refl
+loaded-memory (Err e) m = refl
 
 -- What the contract of each call tells of its exit, and the way back.
-tell_load : WithPools Loaded → Call
+tell_load : WithPools (Result Handle Refusal) → Call
 tell_load x = loaded x.r (mem x.nodes x.slots x.used)
 
 load_told : Injective tell_load
 unfolding tell_load
 load_told = told tell_load (λ (c : Call). record { r = back_loaded c.answer c.handle; nodes = c.memory.nodes; slots = c.memory.slots; used = c.memory.used }) same
   where
-    same : (x : WithPools Loaded) → record { r = back_loaded (tell_load x).answer (tell_load x).handle; nodes = (tell_load x).memory.nodes; slots = (tell_load x).memory.slots; used = (tell_load x).memory.used } ≡ x
+    same : (x : WithPools (Result Handle Refusal)) → record { r = back_loaded (tell_load x).answer (tell_load x).handle; nodes = (tell_load x).memory.nodes; slots = (tell_load x).memory.slots; used = (tell_load x).memory.used } ≡ x
     same x =
         let m = mem x.nodes x.slots x.used in
         let e = loaded_back x.r m in
@@ -159,30 +134,30 @@ load_told = told tell_load (λ (c : Call). record { r = back_loaded c.answer c.h
 
 -- replace and delete tell the same
 module _ (nodes used : List ℕ) where
-  tell_change : WithSlots Changing → Call
+  tell_change : WithSlots (Changing (Unit {0})) → Call
   tell_change x = call (changed x.r.answer) x.r.handle (mem nodes x.slots used)
 
   change-told : Injective tell_change
   unfolding tell_change
   change-told = told tell_change (λ (c : Call). record { r = record { answer = back_changed c.answer; handle = c.handle }; slots = c.memory.slots }) same
     where
-      same : (x : WithSlots Changing) → record { r = record { answer = back_changed (changed x.r.answer); handle = x.r.handle }; slots = x.slots } ≡ x
+      same : (x : WithSlots (Changing (Unit {0}))) → record { r = record { answer = back_changed (changed x.r.answer); handle = x.r.handle }; slots = x.slots } ≡ x
       same x = let e = changed_back x.r.answer in λ i. record { r = record { answer = e i; handle = x.r.handle }; slots = x.slots }
 
-tell_band : WithOutput Listed → Band
+tell_band : WithOutput (Result Listed Refusal) → Band
 tell_band x = band (listed x.r) x.keys x.payloads
 
 band-told : Injective tell_band
 unfolding tell_band
 band-told = told tell_band (λ (b : Band). record { r = back_listed b.answer; keys = b.keys; payloads = b.payloads }) same
   where
-    same : (x : WithOutput Listed) → record { r = back_listed (listed x.r); keys = x.keys; payloads = x.payloads } ≡ x
+    same : (x : WithOutput (Result Listed Refusal)) → record { r = back_listed (listed x.r); keys = x.keys; payloads = x.payloads } ≡ x
     same x = let e = listed_back x.r in λ i. record { r = e i; keys = x.keys; payloads = x.payloads }
 
-tell_insert : WithScratch Inserting → Insert
+tell_insert : WithScratch (Changing Inserted) → Insert
 tell_insert x = insertion (inserted x.r.answer) x.r.handle (mem x.nodes x.slots x.used) (scratch x.keys x.payloads x.places)
 
-back_insert : Insert → WithScratch Inserting
+back_insert : Insert → WithScratch (Changing Inserted)
 back_insert i = record {
   r = record { answer = back_inserted i.answer; handle = i.handle };
   nodes = i.memory.nodes;
@@ -197,7 +172,7 @@ insert-told : Injective tell_insert
 unfolding tell_insert back_insert
 insert-told = told tell_insert back_insert same
   where
-    same : (x : WithScratch Inserting) → back_insert (tell_insert x) ≡ x
+    same : (x : WithScratch (Changing Inserted)) → back_insert (tell_insert x) ≡ x
     same x =
         let e = inserted_back x.r.answer in
         λ i. record {

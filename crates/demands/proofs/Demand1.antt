@@ -1,5 +1,6 @@
 -- Demand 1 holds. The orders are those of Refusals and Inserts; here is what a refused load, replace, delete or band leaves, by the picks
 -- of each definition, and the theorem. Assumes nothing.
+use Rattle.std.specs.Prelude.{Result, Ok, Err}
 use Rattle.std.specs.Prelude.{None, Option, Some}
 use mathlib.Core.Bool.{◌&&◌}
 use mathlib.Core.List.{List, map}
@@ -30,10 +31,10 @@ use Rattle.store.specs.Calls.{Call, call, search_of, answer_by, replace_of}
 use Rattle.store.specs.Handles.{handle_fits, no_handle}
 use Rattle.store.specs.Loading.{first_fault, load_fits, load_built, load_tree, load_list, load_of}
 use Rattle.store.specs.declared.Fault.{Fault}
-use Rattle.store.specs.declared.Fault.TheVariants.{Nothing, OutOfRange as FaultRange, NotRising}
+use Rattle.store.specs.declared.Fault.TheVariants.{OutOfRange as FaultRange, NotRising}
 use Rattle.store.specs.declared.Handle.{Handle}
-use Rattle.store.specs.declared.Search.{Search}
-use Rattle.store.specs.declared.Search.TheVariants.{At, NotThere, OutOfRange, WrongSizes, Damage}
+use Rattle.laws.specs.declared.Refusal.{Refusal}
+use Rattle.store.specs.declared.Held.{Held}
 use Rattle.walk.specs.declared.Span.TheVariants.{Between}
 
 -- load
@@ -43,11 +44,11 @@ module _ (c : ℕ) (ks ps : List ℕ) (m : Mem) where
   built-keeps (Some r) after = λ n. absurd (n refl)
   built-keeps None after = λ n. (refl, refl)
 
-  list-keeps : (f : Fault) → Keeps no_handle m (load_list c ks ps m f)
+  list-keeps : (f : Option Fault) → Keeps no_handle m (load_list c ks ps m f)
   unfolding load_list load_tree
-  list-keeps Nothing = built-keeps _ _
-  list-keeps FaultRange = λ n. (refl, refl)
-  list-keeps (NotRising p) = λ n. (refl, refl)
+  list-keeps None = built-keeps _ _
+  list-keeps (Some FaultRange) = λ n. (refl, refl)
+  list-keeps (Some (NotRising p)) = λ n. (refl, refl)
 
   load-keeps : Keeps no_handle m (load_of c ks ps m)
   unfolding load_of
@@ -58,12 +59,9 @@ module _ (c : ℕ) (ks ps : List ℕ) (m : Mem) where
 
 -- replace and delete: what is made of a search keeps all unless the key was found
 module _ (h : Handle) (m : Mem) where
-  search_keeps : (found : ℕ → ℕ → Call) → ((q v : ℕ) → Keeps h m (found q v)) → (s : Search) → Keeps h m (answer_by (λ a. call a h m) found s)
-  search_keeps found f (At q v) = f q v
-  search_keeps found f (NotThere v) = λ n. (refl, refl)
-  search_keeps found f OutOfRange = λ n. (refl, refl)
-  search_keeps found f WrongSizes = λ n. (refl, refl)
-  search_keeps found f Damage = λ n. (refl, refl)
+  search_keeps : (found : ℕ → ℕ → Call) → ((q v : ℕ) → Keeps h m (found q v)) → (s : Result Held Refusal) → Keeps h m (answer_by (λ a. call a h m) found s)
+  search_keeps found f (Ok x) = f x.slot x.visits
+  search_keeps found f (Err e) = λ n. (refl, refl)
 
   replace-keeps : (k p : ℕ) → Keeps h m (replace_of h k p m)
   unfolding replace_of

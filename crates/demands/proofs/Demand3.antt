@@ -1,4 +1,5 @@
 -- Demand 3, by induction over the calls of a sequence: each leaves a good tree whose elements are the map along it. Assumes nothing.
+use Rattle.std.specs.Prelude.{Option, Some, None}
 use mathlib.Core.Bool.{Bool, true, false, ◌&&◌}
 use mathlib.Core.List.{List, [], ◌∷◌}
 use mathlib.Core.Logic.{◌⊎◌, inl, inr, ⊎_elim}
@@ -23,7 +24,7 @@ use Rattle.store.specs.Calls.{Call, call, search_of, lookup_of, replace_of}
 use Rattle.store.specs.Handles.{handle_fits}
 use Rattle.store.specs.Loading.{load_fits, load_list, load_of, first_fault}
 use Rattle.store.specs.declared.Fault.{Fault}
-use Rattle.store.specs.declared.Fault.TheVariants.{Nothing, OutOfRange as KeyOutOfRange, NotRising as KeyNotRising}
+use Rattle.store.specs.declared.Fault.TheVariants.{OutOfRange as KeyOutOfRange, NotRising as KeyNotRising}
 use Rattle.store.specs.declared.Handle.{Handle}
 use Rattle.walk.specs.Walks.{longest_path, Walk, walk_of}
 use Rattle.demands.specs.Demand2.{found_as, load_tree, LoadLeaves, InsertLeaves, Changes, root_of, same}
@@ -75,11 +76,11 @@ pub record Right (c : ℕ) (ks ps : List ℕ) (m : Mem) : Type 0 where
 not_zero : {n : ℕ} → suc n ≡ 0 → ⊥
 not_zero e = omega arith
 
-fault_of : (c : ℕ) (ks ps : List ℕ) (m : Mem) (f : Fault) → first_fault ks ≡ f → (load_list c ks ps m f).answer.number ≡ 0 → Rising ks
+fault_of : (c : ℕ) (ks ps : List ℕ) (m : Mem) (f : Option Fault) → first_fault ks ≡ f → (load_list c ks ps m f).answer.number ≡ 0 → Rising ks
 unfolding load_list
-fault_of c ks ps m Nothing e z = faultless_rises ks e
-fault_of c ks ps m KeyOutOfRange e z = absurd (not_zero z)
-fault_of c ks ps m (KeyNotRising p) e z = absurd (not_zero z)
+fault_of c ks ps m None e z = faultless_rises ks e
+fault_of c ks ps m (Some KeyOutOfRange) e z = absurd (not_zero z)
+fault_of c ks ps m (Some (KeyNotRising p)) e z = absurd (not_zero z)
 
 pub right : (c : ℕ) (ks ps : List ℕ) (m : Mem) → (load_of c ks ps m).answer.number ≡ 0 → Right c ks ps m
 unfolding load_of

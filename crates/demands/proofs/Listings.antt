@@ -154,19 +154,19 @@ pub record Lists (m : Mem) (room : ℕ) (r : Map) (x : Listing) : Type 0 where
   pub sound : x.sound ≡ true
   pub keys : x.keys ≡ take room (keys_of r)
   pub payloads : map (λ (q : ℕ). get_or m.slots (payload_word q) 0) x.places ≡ take room (payloads_of r)
-  pub more : x.more ≡ pick (ltb room (size r)) 1 0
+  pub more : x.more ≡ ltb room (size r)
 
 take_none : (n : ℕ) → take {A = ℕ} n [] ≡ []
 take_none zero = refl
 take_none (suc n) = refl
 
-lists-none : (m : Mem) (room : ℕ) → Lists m room [] (none 0)
+lists-none : (m : Mem) (room : ℕ) → Lists m room [] (none false)
 lists-none m room = record { sound = refl; keys = sym (take_none room); payloads = sym (take_none room); more = rw (le-ltb room 0 zero-le) }
 
 shift : (a b : ℕ) → ltb a b ≡ ltb (suc a) (suc b)
 shift a b = ⊎_elim (λ h. le-ltb a b h ∙ sym (le-ltb (suc a) (suc b) (omega arith))) (λ h. lt-ltb a b h ∙ sym (lt-ltb (suc a) (suc b) (omega arith))) (le_or_lt b a)
 
-full-step : (m : Mem) (b : Bool) (x : ℕ × ℕ) (r : Map) (y : Listing) → Lists m 0 r y → Lists m 0 (pick b (x ∷ r) r) (pick b (none 1) y)
+full-step : (m : Mem) (b : Bool) (x : ℕ × ℕ) (r : Map) (y : Listing) → Lists m 0 r y → Lists m 0 (pick b (x ∷ r) r) (pick b (none true) y)
 full-step m true x r y l = record { sound = refl; keys = refl; payloads = refl; more = rw (lt-ltb 0 (suc (size r)) (omega arith)) }
 full-step m false x r y l = l
 
@@ -176,7 +176,7 @@ room-step m true room q k x r y z e p l n = record {
   sound = l.sound;
   keys = ap (λ (i : ℕ). i ∷ y.keys) e ∙ ap (λ (i : List ℕ). x.0 ∷ i) l.keys;
   payloads = ap (λ (i : ℕ). i ∷ map (λ (q : ℕ). get_or m.slots (payload_word q) 0) y.places) p ∙ ap (λ (i : List ℕ). x.1 ∷ i) l.payloads;
-  more = l.more ∙ ap (λ (i : Bool). pick i 1 0) (shift room (size r));
+  more = l.more ∙ shift room (size r);
 }
 room-step m false room q k x r y z e p l n = n
 
@@ -186,7 +186,7 @@ module _ (m : Mem) (u v : ℕ) where
       → Lists m room (range u v (x ∷ l)) (listing u v room (Held q k ∷ is))
   unfolding listing
   list-step zero q k x l is e p ih =
-      subst⁻¹ (λ (i : ℕ). Lists m zero (range u v (x ∷ l)) (pick (leb u i && leb i v) (none 1) (listing u v zero is))) e (full-step m (leb u x.0 && leb x.0 v) x (range u v l) _ (ih zero))
+      subst⁻¹ (λ (i : ℕ). Lists m zero (range u v (x ∷ l)) (pick (leb u i && leb i v) (none true) (listing u v zero is))) e (full-step m (leb u x.0 && leb x.0 v) x (range u v l) _ (ih zero))
   list-step (suc room) q k x l is e p ih =
       subst⁻¹ (λ (i : ℕ). Lists m (suc room) (range u v (x ∷ l)) (pick (leb u i && leb i v) (first q k (listing u v room is)) (listing u v (suc room) is))) e
       (room-step m (leb u x.0 && leb x.0 v) room q k x (range u v l) _ _ e p (ih room) (ih (suc room)))

@@ -1,4 +1,5 @@
 -- Load: a build onto empty pools, so that memory holds just the tree that document 01 describes. Assumes nothing.
+use Rattle.std.specs.Prelude.{None}
 use mathlib.Core.Bool.{Bool, true, false}
 use mathlib.Core.List.{List, [], ◌∷◌}
 use mathlib.Core.Path.{◌≡◌, refl, sym, subst⁻¹, ap, ◌∙◌}
@@ -19,7 +20,6 @@ use Rattle.store.proofs.Fitting.{Limits, limits_given, pools_given}
 use Rattle.store.specs.Calls.{Call}
 use Rattle.store.specs.Handles.{limits_hold, pools_are}
 use Rattle.store.specs.Loading.{fault_from, first_fault, emptied, load_fits, load_built, load_from, load_tree as tree_load, load_list, load_of}
-use Rattle.store.specs.declared.Fault.TheVariants.{Nothing}
 use Rattle.walk.specs.Walks.{longest_path}
 use Rattle.demands.specs.Demand2.{load_tree, load_handle, LoadLeaves, LoadAnswers}
 use Rattle.demands.specs.Growing.{Grown, is as grown, no_room as roomless}
@@ -32,14 +32,14 @@ use Rattle.demands.proofs.Growing.{Agrees, grow_agrees}
 use Rattle.demands.proofs.Walking.{Sized}
 
 -- a list that rises has no fault
-fault_free : (i least : ℕ) (ks : List ℕ) → ((j : ℕ) → j < length ks → least ≤ get_or ks j 0) → Rising ks → fault_from i least ks ≡ Nothing
+fault_free : (i least : ℕ) (ks : List ℕ) → ((j : ℕ) → j < length ks → least ≤ get_or ks j 0) → Rising ks → fault_from i least ks ≡ None
 unfolding fault_from
 fault_free i least [] h r = refl
 fault_free i least (k ∷ ks) h r =
     rw (lt-ltb k key_bound (r.below 0 (omega arith)), le-leb least k (h 0 (omega arith)))
     (fault_free (i + 1) (k + 1) ks (λ j l. let a = r.rises 0 (suc j) (omega arith) (omega arith) in omega arith) (rising_tail k ks r))
 
-pub rises_faultless : (ks : List ℕ) → Rising ks → first_fault ks ≡ Nothing
+pub rises_faultless : (ks : List ℕ) → Rising ks → first_fault ks ≡ None
 unfolding first_fault
 rises_faultless ks r = fault_free 0 0 ks (λ j l. zero-le) r
 

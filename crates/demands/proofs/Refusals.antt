@@ -1,6 +1,6 @@
 -- Every call's answer goes by its causes, in their order: cause by cause, what the definition answers where this one holds and none before
 -- it did. Assumes nothing.
-use Rattle.std.specs.Prelude.{None, Option, Some}
+use Rattle.std.specs.Prelude.{None, Option, Some, Result, Ok, Err}
 use mathlib.Core.Bool.{Bool, true, false, ◌&&◌, not}
 use mathlib.Core.List.{List, [], ◌∷◌, ◌++◌}
 use mathlib.Core.Logic.{inl, inr}
@@ -32,10 +32,11 @@ use Rattle.store.specs.Calls.{call, search_end, search_of, answer_by, lookup_of,
 use Rattle.store.specs.Handles.{handle_fits}
 use Rattle.store.specs.Loading.{emptied, first_fault, load_fits, load_built, load_tree, load_list, load_of}
 use Rattle.store.specs.declared.Fault.{Fault}
-use Rattle.store.specs.declared.Fault.TheVariants.{Nothing, OutOfRange as FaultRange, NotRising as FaultFall}
+use Rattle.store.specs.declared.Fault.TheVariants.{OutOfRange as FaultRange, NotRising as FaultFall}
 use Rattle.store.specs.declared.Handle.{Handle}
-use Rattle.store.specs.declared.Search.{Search}
-use Rattle.store.specs.declared.Search.TheVariants.{At, NotThere, OutOfRange, WrongSizes, Damage}
+use Rattle.laws.specs.declared.Refusal.{Refusal}
+use Rattle.laws.specs.declared.Refusal.TheVariants.{OutOfRange, WrongSizes, NotHeld, Damage}
+use Rattle.store.specs.declared.Held.{Held}
 use Rattle.walk.specs.Walks.{longest_path}
 use Rattle.walk.specs.declared.End.{End}
 use Rattle.walk.specs.declared.End.TheVariants.{Empty, Key, Damage as EndDamage}
@@ -173,12 +174,12 @@ module _ (c : ℕ) (ks ps : List ℕ) (m : Mem) where
   built-order (Some r) after = skip _ _ _ _ (none-holds _ refl)
   built-order None after = at_once _ _ _
 
-  list-order : (f : Fault)
+  list-order : (f : Option Fault)
       → GoesBy (refuse out_of_range (is_range f) ∷ refuse_with not_rising (place_of f) (is_fall f) ∷ refuse no_room (is_roomless (build longest_path ks ps (emptied m)).built) ∷ []) (load_list c ks ps m f).answer
   unfolding load_list load_tree
-  list-order Nothing = skip _ _ _ _ (skip _ _ _ _ (built-order (build longest_path ks ps (emptied m)).built (build longest_path ks ps (emptied m)).memory))
-  list-order FaultRange = at_once _ _ _
-  list-order (FaultFall p) = skip _ _ _ _ (at_once _ _ _)
+  list-order None = skip _ _ _ _ (skip _ _ _ _ (built-order (build longest_path ks ps (emptied m)).built (build longest_path ks ps (emptied m)).memory))
+  list-order (Some FaultRange) = at_once _ _ _
+  list-order (Some (FaultFall p)) = skip _ _ _ _ (at_once _ _ _)
 
   pub load-order : GoesBy (load_causes c ks ps m) (load_of c ks ps m).answer
   unfolding load_of
@@ -190,28 +191,28 @@ module _ (c : ℕ) (ks ps : List ℕ) (m : Mem) where
 
 -- lookup, replace and delete begin with the same search
 module _ (k v : ℕ) where
-  ends_damaged : (x : End) → is_damage x ≡ true → search_end k v x ≡ Damage
+  ends_damaged : (x : End) → is_damage x ≡ true → search_end k v x ≡ Err Damage
   unfolding search_end
   ends_damaged (Empty q) e = absurd (true_not_false (sym e))
   ends_damaged (Key q j) e = absurd (true_not_false (sym e))
   ends_damaged (EndDamage c) e = refl
 
-  ends-absent : (x : End) → is_damage x ≡ false → holds_key k x ≡ false → search_end k v x ≡ NotThere v
+  ends-absent : (x : End) → is_damage x ≡ false → holds_key k x ≡ false → search_end k v x ≡ Err (NotHeld v)
   unfolding search_end
   ends-absent (Empty q) d e = refl
   ends-absent (Key q j) d e = rw e
   ends-absent (EndDamage c) d e = absurd (true_not_false d)
 
-  ends_held : (x : End) → holds_key k x ≡ true → (q : ℕ) × (search_end k v x ≡ At q v)
+  ends_held : (x : End) → holds_key k x ≡ true → (q : ℕ) × (search_end k v x ≡ Ok (record { slot = q; visits = v }))
   unfolding search_end
   ends_held (Empty q) e = absurd (true_not_false (sym e))
   ends_held (Key q j) e = (q, rw e)
   ends_held (EndDamage c) e = absurd (true_not_false (sym e))
 
 -- what is made of a search, F, with the causes that only a key held can meet
-module _ (h : Handle) (k : ℕ) (m : Mem) (F : Search → Answer ℕ) (sizes : F WrongSizes ≡ refused wrong_sizes) (range : F OutOfRange ≡ refused out_of_range)
-    (broken : F Damage ≡ refused damage) (absent : (v : ℕ) → F (NotThere v) ≡ refused_with not_held (v ∷ [])) (rest : List (Cause ℕ))
-    (found : (q v : ℕ) → GoesBy rest (F (At q v))) where
+module _ (h : Handle) (k : ℕ) (m : Mem) (F : Result Held Refusal → Answer ℕ) (sizes : F (Err WrongSizes) ≡ refused wrong_sizes) (range : F (Err OutOfRange) ≡ refused out_of_range)
+    (broken : F (Err Damage) ≡ refused damage) (absent : (v : ℕ) → F (Err (NotHeld v)) ≡ refused_with not_held (v ∷ [])) (rest : List (Cause ℕ))
+    (found : (q v : ℕ) → GoesBy rest (F (Ok (record { slot = q; visits = v })))) where
   search_order : GoesBy (search_causes h k m ++ rest) (F (search_of h k m))
   unfolding search_of
   search_order =

@@ -10,7 +10,8 @@ use lib.ListN.{length, get_or, take}
 use Rattle.build.specs.Building.{Out}
 use Rattle.build.specs.Releasing.{release}
 use Rattle.counters.specs.Counters.{raise}
-use Rattle.insert.specs.Inserting.{Fresh, fresh, settled, standing, hung, root_at, replaced, tidy_ends, tidy_by, rebuild_at, one_more_at, put_off, tidied, as_number}
+use Rattle.insert.specs.Inserting.{Fresh, fresh, settled, standing, hung, root_at, replaced, tidy_ends, tidy_by, rebuild_at, one_more_at, put_off, tidied}
+use Rattle.laws.specs.Answers.{as_number}
 use Rattle.laws.proofs.Tests.{le_or_lt}
 use Rattle.laws.specs.Keys.{key_bound}
 use Rattle.pool.proofs.Growth.{Grows, grows_both}

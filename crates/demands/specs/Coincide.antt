@@ -17,7 +17,7 @@ use Rattle.edge.specs.declared.KeyAnswer.{KeyAnswer}
 use Rattle.edge.specs.declared.ModelAnswer.{ModelAnswer}
 use Rattle.edge.specs.declared.SlotAnswer.{SlotAnswer}
 use Rattle.insert.specs.Inserting.{insertion, inserted, insert_of}
-use Rattle.insert.specs.declared.Inserting.{Inserting}
+use Rattle.insert.specs.declared.Inserted.{Inserted}
 use Rattle.laws.specs.declared.Refusal.{Refusal}
 use Rattle.model.specs.Choice.{model_choice, chosen}
 use Rattle.model.specs.Slots.{slot_choice, slotted}
@@ -33,8 +33,7 @@ use Rattle.store.specs.Calls.{call, lookup_of, replace_of, looked, changed}
 use Rattle.store.specs.Loading.{load_of, loaded}
 use Rattle.store.specs.declared.Changing.{Changing}
 use Rattle.store.specs.declared.Handle.{Handle}
-use Rattle.store.specs.declared.Listed.{Listed}
-use Rattle.store.specs.declared.Loaded.{Loaded}
+use Rattle.listing.specs.declared.Listed.{Listed}
 use Rattle.store.specs.declared.Looked.{Looked}
 
 -- what is left at a call's exit: its result r of type R, and every list that it was lent for writing
@@ -79,26 +78,26 @@ SlotChoice key m r = slotted r ≡ slot_choice key m
 abbrev pub ModelChoice : List ℕ → Result Choice Refusal → Type 0
 ModelChoice bytes r = chosen r ≡ model_choice bytes
 
-abbrev pub Load : ℕ → List ℕ → List ℕ → List ℕ → List ℕ → List ℕ → WithPools Loaded → Type 0
+abbrev pub Load : ℕ → List ℕ → List ℕ → List ℕ → List ℕ → List ℕ → WithPools (Result Handle Refusal) → Type 0
 Load capacity keys payloads nodes slots used exit =
     loaded exit.r (mem exit.nodes exit.slots exit.used) ≡ load_of capacity keys payloads (mem nodes slots used)
 
-abbrev pub Lookup : Handle → ℕ → List ℕ → List ℕ → List ℕ → Looked → Type 0
+abbrev pub Lookup : Handle → ℕ → List ℕ → List ℕ → List ℕ → Result Looked Refusal → Type 0
 Lookup h key nodes slots used r = looked r ≡ lookup_of h key (mem nodes slots used)
 
-abbrev pub Replace : Handle → ℕ → ℕ → List ℕ → List ℕ → List ℕ → WithSlots Changing → Type 0
+abbrev pub Replace : Handle → ℕ → ℕ → List ℕ → List ℕ → List ℕ → WithSlots (Changing (Unit {0})) → Type 0
 Replace h key payload nodes slots used exit =
     call (changed exit.r.answer) exit.r.handle (mem nodes exit.slots used) ≡ replace_of h key payload (mem nodes slots used)
 
-abbrev pub Delete : Handle → ℕ → List ℕ → List ℕ → List ℕ → WithSlots Changing → Type 0
+abbrev pub Delete : Handle → ℕ → List ℕ → List ℕ → List ℕ → WithSlots (Changing (Unit {0})) → Type 0
 Delete h key nodes slots used exit =
     call (changed exit.r.answer) exit.r.handle (mem nodes exit.slots used) ≡ delete_of h key (mem nodes slots used)
 
-abbrev pub Band : Handle → ℕ → ℕ → List ℕ → List ℕ → List ℕ → List ℕ → List ℕ → WithOutput Listed → Type 0
+abbrev pub Band : Handle → ℕ → ℕ → List ℕ → List ℕ → List ℕ → List ℕ → List ℕ → WithOutput (Result Listed Refusal) → Type 0
 Band h u v nodes slots used keys payloads exit =
     band (listed exit.r) exit.keys exit.payloads ≡ band_of h u v (mem nodes slots used) keys payloads
 
-abbrev pub Insert : Handle → ℕ → ℕ → List ℕ → List ℕ → List ℕ → List ℕ → List ℕ → List ℕ → WithScratch Inserting → Type 0
+abbrev pub Insert : Handle → ℕ → ℕ → List ℕ → List ℕ → List ℕ → List ℕ → List ℕ → List ℕ → WithScratch (Changing Inserted) → Type 0
 Insert h key payload nodes slots used keys payloads places exit =
     insertion (inserted exit.r.answer) exit.r.handle (mem exit.nodes exit.slots exit.used) (scratch exit.keys exit.payloads exit.places)
     ≡ insert_of h key payload (mem nodes slots used) (scratch keys payloads places)

@@ -22,7 +22,7 @@ use Rattle.store.specs.Bands.{band_items}
 use Rattle.store.specs.Handles.{handle_fits}
 use Rattle.store.specs.Loading.{emptied, first_fault, load_fits}
 use Rattle.store.specs.declared.Fault.{Fault}
-use Rattle.store.specs.declared.Fault.TheVariants.{Nothing, OutOfRange, NotRising}
+use Rattle.store.specs.declared.Fault.TheVariants.{OutOfRange, NotRising}
 use Rattle.store.specs.declared.Handle.{Handle}
 use Rattle.walk.specs.Walks.{Walk, longest_path, walk_of}
 use Rattle.walk.specs.declared.End.{End}
@@ -73,20 +73,20 @@ model_causes bytes =
     ∷ []
 
 -- load: the first place with a fault, and whether a build found no room
-abbrev pub is_range : Fault → Bool
-is_range Nothing = false
-is_range OutOfRange = true
-is_range (NotRising p) = false
+abbrev pub is_range : Option Fault → Bool
+is_range None = false
+is_range (Some OutOfRange) = true
+is_range (Some (NotRising p)) = false
 
-abbrev pub is_fall : Fault → Bool
-is_fall Nothing = false
-is_fall OutOfRange = false
-is_fall (NotRising p) = true
+abbrev pub is_fall : Option Fault → Bool
+is_fall None = false
+is_fall (Some OutOfRange) = false
+is_fall (Some (NotRising p)) = true
 
-abbrev pub place_of : Fault → List ℕ
-place_of Nothing = []
-place_of OutOfRange = []
-place_of (NotRising p) = p ∷ []
+abbrev pub place_of : Option Fault → List ℕ
+place_of None = []
+place_of (Some OutOfRange) = []
+place_of (Some (NotRising p)) = p ∷ []
 
 abbrev pub is_roomless : Option ℕ → Bool
 is_roomless (Some r) = false

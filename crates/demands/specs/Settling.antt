@@ -2,7 +2,8 @@
 -- number of its refusal. Only the map of used places is looked at, to give new nodes their places. Definitions only.
 use Rattle.std.specs.Prelude.{Bool, true, false, List, [], ◌∷◌, ℕ, zero, suc, ◌+◌, ltb, leb, eqb, length}
 use Rattle.counters.specs.Counters.{one_more, raised_if, is_due}
-use Rattle.insert.specs.Inserting.{not_due, tidied, put_off, whole_tree, as_number}
+use Rattle.insert.specs.Inserting.{not_due, tidied, put_off, whole_tree}
+use Rattle.laws.specs.Answers.{as_number}
 use Rattle.laws.specs.Answers.{held, full, no_room}
 use Rattle.laws.specs.Pick.{pick}
 use Rattle.store.specs.declared.Handle.{Handle}

@@ -1,5 +1,5 @@
 -- A refusal's answer determines the refusal, and no refusal is done.
-use Rattle.std.proofs.Common.{◌≡◌, ℕ, List, get_or, eqb, refl, ap, sym, ◌∙◌}
+use Rattle.std.proofs.Common.{◌≡◌, ℕ, List, Ok, Err, get_or, eqb, refl, ap, sym, ◌∙◌}
 use Rattle.laws.specs.Answers.{Answer, done}
 use Rattle.laws.specs.Pick.{pick}
 use Rattle.laws.specs.Refusals.{number_of, refusal}
@@ -18,7 +18,7 @@ number-refusal NoRoom = refl
 number-refusal Damage = refl
 
 -- the refusal of an answer
-abbrev refusal_in : Answer ℕ → Refusal
+abbrev pub refusal_in : Answer ℕ → Refusal
 refusal_in a =
     pick (eqb a.number 1) WrongSizes
     (pick (eqb a.number 2) OutOfRange
@@ -59,3 +59,15 @@ refusal-not_0 e h = number-not_0 e (sym (number-refusal e) ∙ h)
 
 pub refusal-not_done : (e : Refusal) (vs : List ℕ) → refusal e ≡ done vs → ⊥
 refusal-not_done e vs h = refusal-not_0 e (ap (λ (a : Answer ℕ). a.number) h)
+
+-- from a refusal's answer back to the result
+pub back-refused : {T : Type 0} (x : T) (e : Refusal) → pick (eqb (refusal e).number 0) (Ok x) (Err (refusal_in (refusal e))) ≡ Err e
+back-refused x WrongSizes = refl
+back-refused x OutOfRange = refl
+back-refused x Reversed = refl
+back-refused x (NotRising place) = refl
+back-refused x Held = refl
+back-refused x (NotHeld visits) = refl
+back-refused x Full = refl
+back-refused x NoRoom = refl
+back-refused x Damage = refl

@@ -91,7 +91,7 @@ impl Handle {
 
 // The first fault of a list to load.
 #[derive(Clone, Copy, Debug, PartialEq, Eq)]
-enum Fault {
+pub enum Fault {
     OutOfRange,
     NotRising(usize),
 }
