@@ -8,11 +8,12 @@ use desk::{
     ChangedAnswer, InsertedAnswer, ListedAnswer, LoadedAnswer, LookedAnswer, SoundingAnswer,
 };
 use edge::{KeyAnswer, ModelAnswer, SlotAnswer};
-use insert::Inserting;
+use insert::Inserted;
 use laws::Refusal;
+use listing::Listed;
 use model::{Choice, Model};
 use sounding::{OutOfRange, Sounding};
-use store::{Changing, Handle, Listed, Loaded, Looked};
+use store::{Changing, Handle, Looked};
 
 pub fn pack(depth: i64, number: u64) -> Result<u64, OutOfRange>
     ensures { Pack depth number result }
@@ -45,14 +46,20 @@ pub fn load(
     nodes: &mut [u64],
     slots: &mut [u64],
     used: &mut [u64],
-) -> Loaded
+) -> Result<Handle, Refusal>
     ensures { Load capacity keys.now payloads.now nodes.old slots.old used.old
         (record { r = result; nodes = nodes.new; slots = slots.new; used = used.new }) }
 {
     store::load(capacity, keys, payloads, nodes, slots, used)
 }
 
-pub fn lookup(h: Handle, key: u64, nodes: &[u64], slots: &[u64], used: &[u64]) -> Looked
+pub fn lookup(
+    h: Handle,
+    key: u64,
+    nodes: &[u64],
+    slots: &[u64],
+    used: &[u64],
+) -> Result<Looked, Refusal>
     ensures { Lookup h key nodes.now slots.now used.now result }
 {
     store::lookup(h, key, nodes, slots, used)
@@ -65,13 +72,13 @@ pub fn replace(
     nodes: &[u64],
     slots: &mut [u64],
     used: &[u64],
-) -> Changing
+) -> Changing<()>
     ensures { Replace h key payload nodes.now slots.old used.now (record { r = result; slots = slots.new }) }
 {
     store::replace(h, key, payload, nodes, slots, used)
 }
 
-pub fn delete(h: Handle, key: u64, nodes: &[u64], slots: &mut [u64], used: &[u64]) -> Changing
+pub fn delete(h: Handle, key: u64, nodes: &[u64], slots: &mut [u64], used: &[u64]) -> Changing<()>
     ensures { Delete h key nodes.now slots.old used.now (record { r = result; slots = slots.new }) }
 {
     delete::delete(h, key, nodes, slots, used)
@@ -86,7 +93,7 @@ pub fn band(
     used: &[u64],
     keys: &mut [u64],
     payloads: &mut [u64],
-) -> Listed
+) -> Result<Listed, Refusal>
     ensures { Band h u v nodes.now slots.now used.now keys.old payloads.old
         (record { r = result; keys = keys.new; payloads = payloads.new }) }
 {
@@ -103,7 +110,7 @@ pub fn insert(
     keys: &mut [u64],
     payloads: &mut [u64],
     places: &mut [u64],
-) -> Inserting
+) -> Changing<Inserted>
     ensures { Insert h key payload nodes.old slots.old used.old
         keys.old payloads.old places.old
         (record { r = result; nodes = nodes.new; slots = slots.new; used = used.new; keys = keys.new; payloads = payloads.new; places = places.new }) }
