@@ -8,8 +8,8 @@ use Rattle.pool.specs.Memory.{Mem, mem}
 use Rattle.rebuild.specs.Rebuilding.{scratch}
 use Rattle.store.specs.Loading.{load_of, loaded}
 use Rattle.store.specs.declared.Handle.{Handle}
-use Rattle.store.specs.declared.Loaded.{Loaded}
-use Rattle.store.specs.declared.Loaded.TheVariants.{Done}
+use Rattle.std.specs.Prelude.{Result, Ok}
+use Rattle.laws.specs.declared.Refusal.{Refusal}
 use Rattle.operations.specs.Blocks.{left_after}
 use Rattle.operations.specs.Runs.{RunsTo}
 use Rattle.operations.specs.Sessions.{start}
@@ -30,12 +30,12 @@ unfolding start
 first-lists s e = (ap (λ (x : State). length x.keys) e, ap (λ (x : State). length x.payloads) e)
 
 -- the empty load into zeros, with zeros in all other lists, is the first state
-pub begun : (nodes slots used : List ℕ) (m : Mem) (r : Loaded) (h : Handle) (keys payloads places ks ps : List ℕ)
-    → r ≡ Done h → loaded r m ≡ load_of 512 [] [] (mem nodes slots used)
+pub begun : (nodes slots used : List ℕ) (m : Mem) (r : Result Handle Refusal) (h : Handle) (keys payloads places ks ps : List ℕ)
+    → r ≡ Ok h → loaded r m ≡ load_of 512 [] [] (mem nodes slots used)
     → nodes ≡ replicate 2048 0 → slots ≡ replicate 4096 0 → used ≡ replicate 36 0
     → keys ≡ replicate 512 0 → payloads ≡ replicate 512 0 → places ≡ replicate 512 0 → ks ≡ replicate 64 0 → ps ≡ replicate 64 0
     → state h m (scratch keys payloads places) ks ps ≡ start
 unfolding start loaded
 begun nodes slots used m r h keys payloads places ks ps d e en es eu ek ep ea ef eg =
-    let l : load_of 512 [] [] (mem (replicate 2048 0) (replicate 4096 0) (replicate 36 0)) ≡ loaded (Done h) m = sym (rw (d, en, es, eu) at e) in
+    let l : load_of 512 [] [] (mem (replicate 2048 0) (replicate 4096 0) (replicate 36 0)) ≡ loaded (Ok h) m = sym (rw (d, en, es, eu) at e) in
     rw (l, ek, ep, ea, ef, eg)

@@ -14,7 +14,7 @@ use operations::Next;
 use operations::blocks::Pause;
 use pool::Node;
 use std::io::{Input, Print, Read};
-use store::{Handle, Loaded};
+use store::Handle;
 
 // Where a session stands: the handle, how many bytes of the input lie before those held, how many are held, and whether no more come.
 #[derive(Clone, Copy)]
@@ -195,7 +195,7 @@ fn main(rt: HostRuntime) {
     let mut slots: [u64; Stage::SLOTS * Node::SLOT_WORDS] = zeros();
     let mut used = zeros::<{ Stage::MAP_WORDS }>();
     let loaded = store::load(Stage::CAPACITY, &[], &[], &mut nodes, &mut slots, &mut used);
-    let Loaded::Done(h) = loaded else {
+    let Ok(h) = loaded else {
         return;
     };
     let mut keys = zeros::<{ Stage::CAPACITY }>();
