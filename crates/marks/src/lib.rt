@@ -32,11 +32,7 @@ pub fn clear(used: &mut [u64], p: usize)
     requires { p < length used.old * 64 }
     ensures { used.new ≡ clear_at used.old p }
 {
-    let k = p / 64;
-    let x = used[k];
-    if (x >> (p % 64)) % 2 == 1 {
-        used[k] = x - (1 << (p % 64));
-    }
+    used[p / 64] &= !(1 << (p % 64));
 }
 
 // place p used, or unused
