@@ -103,7 +103,9 @@ pub fn is_full_run(used: &[u64], p: usize, n: usize) -> bool
     true
 }
 
-// the first word from k on, below end, that is not full; end if there is none
+// the first word from k on, below end, that is not full; end if there is none. Within its callers the loop may fall across two
+// lines of instructions: an insert at 16,384 keys then took 930 ns in place of 800.
+#[inline(never)]
 fn skip_full(used: &[u64], k: usize, end: usize) -> usize
     requires { (k ≤ end) × (end ≤ length used.now) }
     ensures { (k ≤ result) × (result ≤ end) × ((q : ℕ) → k * 64 ≤ q → q < result * 64 → used_at used.now q ≡ true) }
