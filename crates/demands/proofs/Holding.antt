@@ -5,7 +5,7 @@ use native.Mathlib.Omega.{arith}
 use Prim.Native.Nat.{ℕ, ◌+◌, ◌*◌, ◌<◌, ◌≤◌, ◌/◌, ◌%◌, ◌^◌}
 use lib.ListN.{get_or}
 use lib.Seq.{ext_get_or}
-use Rattle.marks.proofs.Words.{bits_equal}
+use Rattle.std.proofs.lemmas.Nat.Bits.{same_from_bits_below}
 use Rattle.pool.specs.Memory.{Mem}
 use Rattle.demands.specs.Placed.{Head, Branch, sub, Forest, cons, len, node, cell_of, Word, bit, in_node, in_slot, cell_w, in_f, view, Words}
 use Rattle.demands.proofs.Plugs.{at_same, at_none, none-b, none-f}
@@ -77,7 +77,7 @@ same_memory R S m o s t wm wo v = λ i. record { nodes = nodes i; slots = slots 
         subst (λ (j : ℕ). get_or m.slots j 0 ≡ get_or o.slots j 0) e (sym (view-slot R m (i / 2) (i % 2) b) ∙ v (R + i / 2) (in_slot (i % 2)) ∙ view-slot R o (i / 2) (i % 2) b))
 
     used : m.used ≡ o.used
-    used = ext_get_or 0 m.used o.used (s.used ∙ sym t.used) (λ i l. bits_equal 64 (get_or m.used i 0) (get_or o.used i 0) (wm i) (wo i) (λ j h.
+    used = ext_get_or 0 m.used o.used (s.used ∙ sym t.used) (λ i l. same_from_bits_below 64 (get_or m.used i 0) (get_or o.used i 0) (wm i) (wo i) (λ j h.
         let e : (i * 64 + j) / 64 ≡ i = omega arith in
         let d : (i * 64 + j) % 64 ≡ j = omega arith in
         rw (e, d) at (same_bit R m o (i * 64 + j) (v (i * 64 + j) bit))))

@@ -3,18 +3,21 @@
 use mathlib.Core.Bool.{true, false}
 use mathlib.Core.List.{List}
 use mathlib.Core.Logic.{⊎_elim}
-use mathlib.Core.Path.{◌≡◌, sym, ap, ◌∙◌}
+use mathlib.Core.Path.{◌≡◌, refl, sym, ap, ◌∙◌}
 use Prim.Native.Nat.{ℕ, ◌+◌, ◌*◌, ◌-◌, ◌<◌, ◌≤◌, ◌/◌, ◌%◌, ◌^◌}
 use native.Mathlib.Nat.{zero-div}
 use native.Mathlib.Omega.{arith}
 use borrow.Author.Tests.{eq-eqb, ne_eqb, eqb-true, eqb-false}
-use lib.Bits.{bit_or}
+use lib.Bits.{bit_and, bit_or}
 use lib.Dec.{eqb}
 use lib.ListN.{length, get_or, set, length-set, get_or-eq_default}
 use lib.Seq.{get_or-set_same, get_or-set_other, set_out, set-get_or, ext_get_or}
+use mir.Syntax.{w64}
+use Rattle.std.proofs.lemmas.Nat.{and_le_l}
+use Rattle.std.proofs.lemmas.Nat.Bits.{bit_at_clear_same, bit_at_clear_other, same_from_bits_below}
 use Rattle.laws.proofs.Tests.{both, le_or_lt, true_not_false}
 use Rattle.marks.specs.Used.{used_at, mark_at, clear_at}
-use Rattle.marks.proofs.Words.{shl_one, set_same, set_other, set-fits, taken_same, taken_other, or_bit, bits_equal}
+use Rattle.marks.proofs.Words.{shl_one, set_same, set_other, set-fits, taken_same, taken_other, or_bit}
 
 -- every word of the map is one of 64 bits
 abbrev pub Words : List ℕ → Type 0
@@ -123,7 +126,7 @@ module _ (u : List ℕ) (p : ℕ) where
 
 -- a map is known by its places
 pub used_ext : (u v : List ℕ) → length u ≡ length v → Words u → Words v → ((p : ℕ) → used_at u p ≡ used_at v p) → u ≡ v
-used_ext u v l a b f = ext_get_or 0 u v l (λ i h. bits_equal 64 (get_or u i 0) (get_or v i 0) (a i) (b i) (bits i))
+used_ext u v l a b f = ext_get_or 0 u v l (λ i h. same_from_bits_below 64 (get_or u i 0) (get_or v i 0) (a i) (b i) (bits i))
   where
     bits : (i j : ℕ) → j < 64 → get_or u i 0 / 2 ^ j % 2 ≡ get_or v i 0 / 2 ^ j % 2
     bits i j k =
@@ -162,10 +165,22 @@ mark_or u p =
 pub mark_stored : (u : List ℕ) (p : ℕ) → set u (p / 64) (bit_or (get_or u (p / 64) 0) (1 * 2 ^ (p % 64) % 2 ^ 64)) ≡ mark_at u p
 mark_stored u p = rw (shl_one (p % 64) (omega arith)) (mark_or u p)
 
-pub clear_stored : (u : List ℕ) (p : ℕ) → bit_at u p ≡ 1 → set u (p / 64) (get_or u (p / 64) 0 - 1 * 2 ^ (p % 64) % 2 ^ 64) ≡ clear_at u p
-unfolding clear_at
-clear_stored u p b = let e : used_at u p ≡ true = one-used u p b in rw (shl_one (p % 64) (omega arith), e)
+-- a word with its bit i taken away is known by its bits
+without_bit : (x i y : ℕ) → i < 64 → x < 2 ^ 64 → y < 2 ^ 64 → y / 2 ^ i % 2 ≡ 0 → ((j : ℕ) → (j ≡ i → ⊥) → y / 2 ^ j % 2 ≡ x / 2 ^ j % 2)
+    → bit_and x (2 ^ 64 - 1 - 1 * 2 ^ i % 2 ^ 64) ≡ y
+without_bit x i y l a b none others =
+    same_from_bits_below 64 (bit_and x (2 ^ 64 - 1 - 1 * 2 ^ i % 2 ^ 64)) y (omega (arith, and_le_l x (2 ^ 64 - 1 - 1 * 2 ^ i % 2 ^ 64))) b (λ j h.
+    both (eqb j i)
+    (λ t. let d : j ≡ i = eqb-true _ _ t in rw d (bit_at_clear_same w64 x i l ∙ sym none))
+    (λ t. bit_at_clear_other w64 x i l j h (eqb-false _ _ t) ∙ sym (others j (eqb-false _ _ t))))
 
-pub clear_unset : (u : List ℕ) (p : ℕ) → bit_at u p ≡ 0 → u ≡ clear_at u p
+pub clear_stored : (u : List ℕ) (p : ℕ) → get_or u (p / 64) 0 < 2 ^ 64
+    → set u (p / 64) (bit_and (get_or u (p / 64) 0) (2 ^ 64 - 1 - 1 * 2 ^ (p % 64) % 2 ^ 64)) ≡ clear_at u p
 unfolding clear_at
-clear_unset u p b = let e : used_at u p ≡ false = zero_unused u p b in rw e
+clear_stored u p w =
+    let l : p % 64 < 64 = omega arith in
+    both (used_at u p)
+    (λ e.
+    let b = used-one u p e in
+    rw (e, without_bit (get_or u (p / 64) 0) (p % 64) (get_or u (p / 64) 0 - 2 ^ (p % 64)) l w (omega arith) (taken_same _ _ b) (λ j n. taken_other _ _ j b n)))
+    (λ e. rw (e, without_bit (get_or u (p / 64) 0) (p % 64) (get_or u (p / 64) 0) l w w (unused_zero u p e) (λ j n. refl), set-get_or u (p / 64) 0))

@@ -32,7 +32,7 @@ use Rattle.marks.proofs.Marks.{
   clear-length,
   clear-words,
 }
-use Rattle.marks.proofs.Words.{full-bit, bits_equal}
+use Rattle.std.proofs.lemmas.Nat.Bits.{bit_at_ones, same_from_bits_below}
 
 -- what making one place b does
 pub record Step (step : List ℕ → ℕ → List ℕ) (b : Bool) : Type 0 where
@@ -209,7 +209,7 @@ clear-mark_run u p n f w =
 
 -- a word that is full, and one that is 0
 pub full-word-used : (u : List ℕ) (q : ℕ) → get_or u (q / 64) 0 ≡ 2 ^ 64 - 1 → used_at u q ≡ true
-full-word-used u q e = one-used u q (rw e (full-bit (q % 64) (omega arith)))
+full-word-used u q e = one-used u q (rw e (bit_at_ones 64 (q % 64) (omega arith)))
 
 pub zero_word_unused : (u : List ℕ) (q : ℕ) → get_or u (q / 64) 0 ≡ 0 → used_at u q ≡ false
 zero_word_unused u q e = zero_unused u q (rw (e, zero-div (2 ^ (q % 64))))
@@ -217,10 +217,10 @@ zero_word_unused u q e = zero_unused u q (rw (e, zero-div (2 ^ (q % 64))))
 -- a word whose 64 places are used is full
 pub used-word-full : (u : List ℕ) (p : ℕ) → p % 64 ≡ 0 → Words u → full_run u p 64 ≡ true → get_or u (p / 64) 0 ≡ 2 ^ 64 - 1
 used-word-full u p z w f =
-    bits_equal 64 (get_or u (p / 64) 0) (2 ^ 64 - 1) (w (p / 64)) (omega arith) (λ j l.
+    same_from_bits_below 64 (get_or u (p / 64) 0) (2 ^ 64 - 1) (w (p / 64)) (omega arith) (λ j l.
     let a : (p + j) / 64 ≡ p / 64 = omega arith in
     let b : (p + j) % 64 ≡ j = omega arith in
-    (rw (a, b) at (used-one u (p + j) (full_run_at u p 64 f (p + j) (omega arith) (omega arith)))) ∙ sym (full-bit j l))
+    (rw (a, b) at (used-one u (p + j) (full_run_at u p 64 f (p + j) (omega arith) (omega arith)))) ∙ sym (bit_at_ones 64 j l))
 
 -- a run of 64 places from a word's start is stored as one word
 pub mark-word : (u : List ℕ) (p : ℕ) → p % 64 ≡ 0 → p / 64 < length u → Words u → mark_run u p 64 ≡ set u (p / 64) (2 ^ 64 - 1)

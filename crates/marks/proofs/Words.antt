@@ -1,14 +1,12 @@
--- One bit of one word of 64: what adding or taking away a power of two does to each bit, that every bit of the full word is
--- set, and that two words with the same bits are equal. Assumes nothing.
+-- One bit of one word of 64: what adding or taking away a power of two does to each bit. Assumes nothing.
 use mathlib.Core.Logic.{⊎_elim}
 use mathlib.Core.Path.{◌≡◌, sym, subst, ap, ◌∙◌}
-use Prim.Native.Nat.{ℕ, zero, suc, ◌+◌, ◌*◌, ◌-◌, ◌<◌, ◌≤◌, ◌/◌, ◌%◌, ◌^◌}
-use native.Mathlib.Nat.{add-mul-div_right, one-mul, div-lt_iff_lt-mul, mul-le-mul_right, pow-zero}
-use native.Mathlib.Numerals.{one-add}
+use Prim.Native.Nat.{ℕ, ◌+◌, ◌*◌, ◌-◌, ◌<◌, ◌≤◌, ◌/◌, ◌%◌, ◌^◌}
+use native.Mathlib.Nat.{add-mul-div_right, one-mul, div-lt_iff_lt-mul, mul-le-mul_right}
 use native.Mathlib.Omega.{arith}
 use lib.Arith.{lt_of_le-ne}
 use lib.Bits.{bit_and, bit_or, and_high, or_add_and}
-use lib.Pow.{shl_exact, shr-shr, shr_lt, pow_pos, pow-add, split, high, ones_lt, ones_split}
+use lib.Pow.{shl_exact, shr-shr, shr_lt, pow_pos, pow-add, split}
 use Rattle.laws.proofs.Tests.{le_or_lt}
 
 pub shl_one : (i : ℕ) → i < 64 → 1 * 2 ^ i % 2 ^ 64 ≡ 2 ^ i
@@ -70,31 +68,9 @@ taken_other x i j h n =
     let e : x - 2 ^ i + 2 ^ i ≡ x = omega (arith, power_within x i h) in
     sym (subst (λ (y : ℕ). y / 2 ^ j % 2 ≡ (x - 2 ^ i) / 2 ^ j % 2) e (set_other (x - 2 ^ i) i j (taken_same x i h) n))
 
--- every bit of the full word is set
-pub full-bit : (i : ℕ) → i < 64 → (2 ^ 64 - 1) / 2 ^ i % 2 ≡ 1
-full-bit i h =
-    let e : 63 - i + 1 + i ≡ 64 = omega arith in
-    let a : (2 ^ (63 - i + 1 + i) - 1) / 2 ^ i ≡ 2 ^ (63 - i + 1) - 1 = rw (ones_split (63 - i + 1) i) (high (2 ^ (63 - i + 1) - 1) i (ones_lt i)) in
-    let b : (2 ^ 64 - 1) / 2 ^ i ≡ 2 ^ (63 - i + 1) - 1 = subst (λ (k : ℕ). (2 ^ k - 1) / 2 ^ i ≡ 2 ^ (63 - i + 1) - 1) e a in
-    omega (arith, b, pow-add 2 (63 - i) 1, pow_pos (63 - i))
-
 -- with an or, whatever the bit was
 pub or_bit : (x i : ℕ) → bit_or x (2 ^ i) + x / 2 ^ i % 2 * 2 ^ i ≡ x + 2 ^ i
 or_bit x i =
     let e : 2 ^ (1 + i) - 2 ^ i ≡ 2 ^ i = omega (arith, pow-add 2 1 i) in
     let a : bit_and x (2 ^ i) ≡ x / 2 ^ i % 2 * 2 ^ i = subst (λ (y : ℕ). bit_and x y ≡ x / 2 ^ i % 2 * 2 ^ i) e (and_high x 1 i) in
     subst (λ (y : ℕ). bit_or x (2 ^ i) + y ≡ x + 2 ^ i) a (or_add_and x (2 ^ i))
-
--- two words of k bits with the same bits are equal
-pub bits_equal : (k x y : ℕ) → x < 2 ^ k → y < 2 ^ k → ((j : ℕ) → j < k → x / 2 ^ j % 2 ≡ y / 2 ^ j % 2) → x ≡ y
-bits_equal zero x y a b f =
-    let c : x < 1 = rw pow-zero at a in
-    let d : y < 1 = rw pow-zero at b in
-    omega arith
-bits_equal (suc k) x y a b f =
-    let p : 2 ^ (1 + k) ≡ 2 * 2 ^ k = pow-add 2 1 k in
-    let c : x < 2 ^ (1 + k) = rw one-add a in
-    let d : y < 2 ^ (1 + k) = rw one-add b in
-    let z : x % 2 ≡ y % 2 = omega (arith, f 0 (omega arith)) in
-    let h : x / 2 ≡ y / 2 = bits_equal k (x / 2) (y / 2) (omega arith) (omega arith) (λ j l. rw (shr-shr x 1 j, shr-shr y 1 j, one-add j) (f (suc j) (omega arith))) in
-    omega arith

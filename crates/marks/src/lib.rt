@@ -32,11 +32,7 @@ pub fn clear(used: &mut [u64], p: usize)
     requires { p < length used.old * 64 }
     ensures { used.new ≡ clear_at used.old p }
 {
-    let k = p / 64;
-    let x = used[k];
-    if (x >> (p % 64)) % 2 == 1 {
-        used[k] = x - (1 << (p % 64));
-    }
+    used[p / 64] &= !(1 << (p % 64));
 }
 
 // place p used, or unused
@@ -107,7 +103,9 @@ pub fn is_full_run(used: &[u64], p: usize, n: usize) -> bool
     true
 }
 
-// the first word from k on, below end, that is not full; end if there is none
+// the first word from k on, below end, that is not full; end if there is none. Within its callers the loop may fall across two
+// lines of instructions: an insert at 16,384 keys then took 930 ns in place of 800.
+#[inline(never)]
 fn skip_full(used: &[u64], k: usize, end: usize) -> usize
     requires { (k ≤ end) × (end ≤ length used.now) }
     ensures { (k ≤ result) × (result ≤ end) × ((q : ℕ) → k * 64 ≤ q → q < result * 64 → used_at used.now q ≡ true) }
