@@ -1,6 +1,5 @@
 -- Gathering the keys of a rebuild: the live keys up to the new one, the new key, and the live keys after it are as many as scratch has
 -- places for, rise, and stand in scratch from the front. Assumes nothing.
-use mathlib.Core.Bool.{true, false}
 use mathlib.Core.List.{List, ◌∷◌, ◌++◌}
 use mathlib.Core.Logic.{⊎_elim}
 use mathlib.Core.Path.{◌≡◌, refl, sym, ◌∙◌}

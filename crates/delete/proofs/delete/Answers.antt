@@ -1,5 +1,5 @@
 -- `delete::delete` meets its contract: what it makes of the search (proofs/Deletes). Assumes nothing.
-use mathlib.Core.Path.{◌≡◌, sym, ◌∙◌}
+use mathlib.Core.Path.{sym}
 use native.Mathlib.Omega.{arith}
 use Rattle.store.specs.Calls.{changed}
 use Rattle.store.proofs.Searching.{search_within}

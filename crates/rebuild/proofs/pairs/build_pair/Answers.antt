@@ -1,6 +1,6 @@
 -- `pairs::build_pair` meets its contract: no node, or the two keys in their order. Assumes nothing.
 use Rattle.std.specs.Prelude.{true}
-use mathlib.Core.Path.{refl, ap}
+use mathlib.Core.Path.{refl}
 use Rattle.rebuild.proofs.Conflicts.{pair-none, pair-first, pair-second, parted}
 use Rattle.rebuild.specs.Pairs.{PairFits}
 use Rattle.rebuild.proofs.pairs.build_pair.Goals as goal
