@@ -179,6 +179,7 @@ pub fn build_node(
     let m = node.model;
     let mut next = place.next;
     let mut a = 0;
+    // A turn takes a whole run of keys, so no range counts the turns.
     while a < keys.len() {
         let b = run_end(keys, a, m);
         let k = keys[a];

@@ -56,6 +56,7 @@ pub fn run(
     let mut handle = h;
     let mut p = 0;
     let mut at = 0;
+    // An operation's own length says how far a turn goes, so no range counts the turns.
     while p < input.len() {
         if out.len() - at < Next::LONGEST_ANSWER {
             return Ran {

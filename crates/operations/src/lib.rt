@@ -1,14 +1,14 @@
 // One operation of a session, and a block of them: read, done and printed (document 01, "The session program").
 #![tactic(auto)]
 
-ghost use Rattle.std.specs.Prelude.{◌≡◌, ◌+◌, ◌*◌, ◌≤◌, length};
+ghost use Rattle.std.specs.Prelude.{◌≡◌, ◌+◌, ◌*◌, ◌<◌, ◌≤◌, length};
 ghost use Rattle.delete.specs.Deleting.{delete_of};
 ghost use Rattle.lines.specs.Kinds.{body_length};
 ghost use Rattle.lines.specs.Lines.{longest_line, text, write};
 ghost use Rattle.pool.specs.Memory.{mem};
 ghost use Rattle.rebuild.specs.Rebuilding.{scratch};
 ghost use Rattle.store.specs.Bands.{band_of};
-ghost use Rattle.store.specs.Calls.{lookup_of, replace_of};
+ghost use Rattle.store.specs.Calls.{lookup_of, replace_of, changed};
 ghost use Rattle.insert.specs.Inserting.{insert_of};
 ghost use Rattle.laws.specs.Refusals.{status_of};
 ghost use Rattle.operations.specs.Printing.{answer_line, element_lines, band_lines};
@@ -90,6 +90,19 @@ fn insert(
     Next { handle, at: end }
 }
 
+// The line of a change: its number, and nothing besides.
+fn change_line(kind: u8, answer: Result<(), Refusal>, out: &mut [u8], at: usize) -> usize
+    requires kind_is_a_digit { kind < 10 }
+    requires room { at + longest_line ≤ length out.old }
+    ensures result_after { text out.new result ≡ write (text out.old at) (answer_line kind (changed answer)) }
+    ensures upper_bound { (result ≤ at + longest_line) × (length out.new ≡ length out.old) }
+{
+    let Ok(()) = answer else {
+        return lines::line(b'0' + kind, &[number_of(&answer)], out, at);
+    };
+    lines::line(b'0' + kind, &[0], out, at)
+}
+
 fn delete(
     h: Handle,
     key: u64,
@@ -107,14 +120,10 @@ fn delete(
     ensures at_bound { (result.at ≤ at + longest_line) × (length out.new ≡ length out.old) }
 {
     let c = delete::delete(h, key, nodes, slots, used);
-    let handle = c.handle;
-    let answer = c.answer;
-    let Ok(()) = answer else {
-        let end = lines::line(b'2', &[number_of(&answer)], out, at);
-        return Next { handle, at: end };
-    };
-    let end = lines::line(b'2', &[0], out, at);
-    Next { handle, at: end }
+    Next {
+        handle: c.handle,
+        at: change_line(2, c.answer, out, at),
+    }
 }
 
 fn replace(
@@ -135,14 +144,10 @@ fn replace(
     ensures at_bound { (result.at ≤ at + longest_line) × (length out.new ≡ length out.old) }
 {
     let c = store::replace(h, key, payload, nodes, slots, used);
-    let handle = c.handle;
-    let answer = c.answer;
-    let Ok(()) = answer else {
-        let end = lines::line(b'5', &[number_of(&answer)], out, at);
-        return Next { handle, at: end };
-    };
-    let end = lines::line(b'5', &[0], out, at);
-    Next { handle, at: end }
+    Next {
+        handle: c.handle,
+        at: change_line(5, c.answer, out, at),
+    }
 }
 
 fn lookup(
