@@ -43,12 +43,9 @@ module _ (m : Mem) (r : ℕ) where
       reads-run_outside h = rw (lt-ltb r (records_in m.nodes) inside, marked, lt-leb _ (slots_in m.slots) h)
 
       module _ (fits : (node_in m.nodes r).start + (node_in m.nodes r).model.l ≤ slots_in m.slots) where
-        pub reads_unfit : (InRange (node_in m.nodes r).model → ⊥) → node_at m r ≡ Err ModelOutOfRange
+        pub reads_unfit : in_range (node_in m.nodes r).model ≡ false → node_at m r ≡ Err ModelOutOfRange
         unfolding node_at node_fits
-        reads_unfit unfit =
-            both (in_range (node_in m.nodes r).model)
-            (λ e. absurd (unfit (passes_range _ e)))
-            (λ e. rw (lt-ltb r (records_in m.nodes) inside, marked, le-leb _ (slots_in m.slots) fits, e))
+        reads_unfit e = rw (lt-ltb r (records_in m.nodes) inside, marked, le-leb _ (slots_in m.slots) fits, e)
 
         pub reads-good : InRange (node_in m.nodes r).model → node_at m r ≡ Ok (node_in m.nodes r)
         unfolding node_at node_fits
