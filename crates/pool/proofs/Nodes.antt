@@ -7,7 +7,6 @@ use Prim.Native.Nat.{ℕ, ◌+◌, ◌<◌, ◌≤◌}
 use native.Mathlib.Omega.{arith}
 use borrow.Author.Tests.{lt-ltb, le-ltb, le-leb, lt-leb, ltb-true, leb-true}
 use lib.Dec.{ltb, leb}
-use Rattle.laws.proofs.Tests.{both}
 use Rattle.laws.specs.Pick.{pick}
 use Rattle.marks.specs.Used.{used_at}
 use Rattle.model.proofs.Slots.{passes_range, range_passes}

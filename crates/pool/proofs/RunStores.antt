@@ -1,11 +1,11 @@
 -- Zeroing a run of slots: what stands at each place afterwards, and the length. Assumes nothing.
 use mathlib.Core.List.{List}
 use mathlib.Core.Logic.{◌⊎◌, ⊎_elim}
-use mathlib.Core.Path.{◌≡◌, sym, ◌∙◌}
-use Prim.Native.Nat.{ℕ, ◌+◌, ◌-◌, ◌*◌, ◌<◌, ◌≤◌}
+use mathlib.Core.Path.{◌≡◌}
+use Prim.Native.Nat.{ℕ, ◌+◌, ◌*◌, ◌<◌, ◌≤◌}
 use native.Mathlib.Omega.{arith}
-use lib.ListN.{length, get_or, replicate, length-replicate, get_or-replicate}
-use lib.Seq.{sets, length-sets, ext_get_or}
+use lib.ListN.{length, get_or, replicate, length-replicate}
+use lib.Seq.{length-sets}
 use Rattle.pool.specs.Memory.{kind_word, slot_words}
 use Rattle.pool.specs.Writing.{zero_run}
 use Rattle.pool.proofs.Sets.{Words, sets_before, sets_past, sets_zeros, sets_words, zeros-words}
