@@ -12,7 +12,6 @@ use Rattle.listing.proofs.Listings.{relisted}
 use Rattle.listing.proofs.Writes.{payloads_at}
 use Rattle.listing.specs.Listing.{listing, count_from}
 use Rattle.std.specs.Prelude.{Ok, Err}
-use Rattle.laws.specs.Refusals.{refusal}
 use Rattle.laws.specs.declared.Refusal.{Refusal}
 use Rattle.laws.specs.declared.Refusal.TheVariants.{WrongSizes, OutOfRange, Reversed}
 use Rattle.listing.specs.declared.Listed.{Listed}

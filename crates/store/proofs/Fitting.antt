@@ -1,12 +1,12 @@
 -- When a handle fits the lent pools: the tests of specs/Handles as records of facts, both ways. Assumes nothing.
-use mathlib.Core.Bool.{true, false}
+use mathlib.Core.Bool.{true}
 use mathlib.Core.Path.{◌≡◌, sym}
 use Prim.Native.Nat.{ℕ, ◌*◌, ◌≤◌}
 use native.Mathlib.Omega.{arith}
 use borrow.Author.Tests.{le-leb, leb-true, eq-eqb, eqb-true}
 use lib.Dec.{leb, eqb}
 use lib.ListN.{length}
-use Rattle.laws.proofs.Tests.{and_both, and_true, fails}
+use Rattle.laws.proofs.Tests.{and_both, and_true}
 use Rattle.pool.specs.Memory.{Mem, record_words, slot_words, records_in, slots_in}
 use Rattle.store.specs.Handles.{least_capacity, most_capacity, least_records, most_records, least_pool_slots, most_pool_slots, within, map_words, pools_are, limits_hold, handle_fits}
 use Rattle.store.specs.declared.Handle.{Handle}

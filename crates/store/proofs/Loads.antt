@@ -7,7 +7,6 @@ use mathlib.Core.Path.{◌≡◌, refl, sym, ap, ◌∙◌}
 use Prim.Native.Nat.{ℕ, ◌+◌, ◌*◌, ◌<◌, ◌≤◌}
 use native.Mathlib.Omega.{arith}
 use borrow.Author.Tests.{le-leb, lt-leb, eqb-true}
-use lib.Dec.{eqb}
 use lib.ListN.{length, length-replicate}
 use Rattle.build.proofs.Rooms.{empty_builds, builds_empty}
 use Rattle.build.specs.Building.{Out, out, build}
@@ -23,7 +22,6 @@ use Rattle.store.specs.Handles.{new_handle, limits_hold, pools_are}
 use Rattle.store.specs.Loading.{first_fault, refusal_for, emptied, load_fits, load_built, load_tree, load_list, load_of, loaded, Loadable, Roomy}
 use Rattle.store.specs.declared.Fault.{Fault}
 use Rattle.store.specs.declared.Fault.TheVariants.{OutOfRange as KeyOutOfRange, NotRising as KeyNotRising}
-use Rattle.laws.specs.Refusals.{refusal}
 use Rattle.laws.specs.declared.Refusal.TheVariants.{WrongSizes, Full, NoRoom}
 use Rattle.store.specs.declared.Handle.{Handle}
 use Rattle.walk.specs.Walks.{longest_path}

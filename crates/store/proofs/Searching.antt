@@ -16,7 +16,7 @@ use Rattle.store.specs.Calls.{call, search_end, search_of, answer_by, lookup_of,
 use Rattle.store.specs.Handles.{handle_fits}
 use Rattle.std.specs.Prelude.{Result, Ok, Err}
 use Rattle.laws.specs.declared.Refusal.{Refusal}
-use Rattle.laws.specs.declared.Refusal.TheVariants.{WrongSizes, OutOfRange, NotHeld, Damage}
+use Rattle.laws.specs.declared.Refusal.TheVariants.{WrongSizes, OutOfRange, NotHeld}
 use Rattle.store.specs.declared.Handle.{Handle}
 use Rattle.store.specs.declared.Held.{Held}
 use Rattle.walk.proofs.Walks.{walk-key-within}

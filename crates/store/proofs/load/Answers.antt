@@ -1,7 +1,6 @@
 -- `store::load` meets its contract: a law for each way out (proofs/Loads). Assumes nothing.
-use mathlib.Core.Path.{◌≡◌, sym, ◌∙◌}
+use mathlib.Core.Path.{sym, ◌∙◌}
 use Rattle.store.proofs.Loads.{loadable, load-sizes, load_full, load-fault, load_tree-load_of}
-use Rattle.std.specs.Prelude.{None}
 use Rattle.store.proofs.load.Goals as goal
 
 pub returns-then-not-load_fits : goal.returns-then-not-load_fits

@@ -1,6 +1,5 @@
 -- `store::lookup` meets its contract: what it makes of the search (proofs/Searching). Assumes nothing.
-use Rattle.std.specs.Prelude.{Ok, Err}
-use mathlib.Core.Path.{◌≡◌, sym, ◌∙◌}
+use mathlib.Core.Path.{sym, ◌∙◌}
 use Rattle.std.proofs.lemmas.Result.{err_from_is_err_and}
 use native.Mathlib.Omega.{arith}
 use Rattle.store.specs.Calls.{looked}

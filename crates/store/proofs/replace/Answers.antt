@@ -1,6 +1,5 @@
 -- `store::replace` meets its contract: what it makes of the search (proofs/Searching). Assumes nothing.
-use Rattle.std.specs.Prelude.{Ok, Err}
-use mathlib.Core.Path.{◌≡◌, sym, ◌∙◌}
+use mathlib.Core.Path.{sym}
 use native.Mathlib.Omega.{arith}
 use Rattle.store.specs.Calls.{changed}
 use Rattle.store.proofs.Searching.{replace_by, search_within}

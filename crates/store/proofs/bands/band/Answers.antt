@@ -1,5 +1,5 @@
 -- `store::bands::band` meets its contract, way by way (proofs/BandWays). Assumes nothing.
-use mathlib.Core.Path.{◌≡◌, sym, ◌∙◌}
+use mathlib.Core.Path.{sym, ◌∙◌}
 use Rattle.std.proofs.lemmas.Result.{err_from_is_err_and}
 use native.Mathlib.Omega.{arith}
 use Rattle.store.specs.Bands.{band_items}
