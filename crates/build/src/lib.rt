@@ -25,7 +25,7 @@ pub struct Hint {
 }
 
 // A build's end: its top node's record, if there was room, and where the next search may start.
-#[derive(Clone, Copy)]
+#[derive(Clone, Copy, Debug, PartialEq, Eq)]
 pub struct Grown {
     pub built: Option<usize>,
     pub hint: Hint,

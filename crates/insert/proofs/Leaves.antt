@@ -6,7 +6,7 @@ use mathlib.Core.List.{List}
 use mathlib.Core.Path.{◌≡◌, refl, sym, ap, ◌∙◌}
 use Prim.Native.Nat.{ℕ, zero, suc, ◌+◌, ◌-◌, ◌<◌, ◌≤◌}
 use native.Mathlib.Omega.{arith}
-use borrow.Author.Tests.{le-leb, lt-leb, leb-true, eq-eqb, ne_eqb, eqb-true, lt-ltb, le-ltb}
+use borrow.Author.Tests.{leb-true, eqb-true, lt-ltb, le-ltb}
 use lib.Dec.{leb, eqb}
 use lib.ListN.{length, get_or, take}
 use lib.Seq.{get_or-take, length-take-le}
@@ -27,19 +27,6 @@ use Rattle.walk.specs.declared.Path.{Path}
 
 -- scratch
 module _ (capacity : ℕ) (ks ps qs : List ℕ) where
-  pub scratch-short : length ks < capacity → false ≡ scratch_fits capacity (scratch ks ps qs)
-  unfolding scratch_fits
-  scratch-short h = rw (lt-leb capacity (length ks) h)
-
-  module _ (h : capacity ≤ length ks) where
-    pub scratch_unequal : (length ps ≡ length ks → ⊥) → false ≡ scratch_fits capacity (scratch ks ps qs)
-    unfolding scratch_fits
-    scratch_unequal f = rw (le-leb capacity (length ks) h, ne_eqb (length ps) (length ks) f)
-
-    pub scratch_last : length ps ≡ length ks → eqb (length qs) (length ks) ≡ scratch_fits capacity (scratch ks ps qs)
-    unfolding scratch_fits
-    scratch_last f = rw (le-leb capacity (length ks) h, eq-eqb (length ps) (length ks) f)
-
   pub scratch_given : scratch_fits capacity (scratch ks ps qs) ≡ true → (capacity ≤ length ks) × (length ps ≡ length ks) × (length qs ≡ length ks)
   unfolding scratch_fits
   scratch_given e =

@@ -58,16 +58,11 @@ struct Entry {
 }
 
 // Is scratch as long as the capacity, and are its lists equally long?
+#[tactic(auto, unfolding(crate::specs::Inserting::scratch_fits))]
 fn scratch_fits(capacity: usize, keys: &[u64], payloads: &[u64], places: &[u64]) -> bool
     ensures { result ≡ scratch_fits capacity (scratch keys.now payloads.now places.now) }
 {
-    if keys.len() < capacity {
-        return false;
-    }
-    if payloads.len() != keys.len() {
-        return false;
-    }
-    places.len() == keys.len()
+    capacity <= keys.len() && payloads.len() == keys.len() && places.len() == keys.len()
 }
 
 // Is no rule broken in the subtree to be rebuilt, at place `at` of the path, if there is one?

@@ -42,10 +42,7 @@ impl Listed {
 fn inside(u: u64, v: u64, k: u64) -> bool
     ensures { result ≡ (leb u k && leb k v) }
 {
-    if k < u {
-        return false;
-    }
-    k <= v
+    (u..=v).contains(&k)
 }
 
 // From an item on to the next between u and v.

@@ -18,7 +18,7 @@ pub enum Pause {
 }
 
 // What a block leaves: the next handle, the bytes taken and printed, and why it was left.
-#[derive(Clone, Copy)]
+#[derive(Clone, Copy, Debug, PartialEq, Eq)]
 pub struct Ran {
     pub handle: Handle,
     pub taken: usize,

@@ -22,7 +22,7 @@ use store::Handle;
 pub mod blocks;
 
 // What an operation leaves: the next handle, and the place past what was printed.
-#[derive(Clone, Copy)]
+#[derive(Clone, Copy, Debug, PartialEq, Eq)]
 pub struct Next {
     pub handle: Handle,
     pub at: usize,

@@ -7,7 +7,6 @@ use Prim.Native.Nat.{ℕ, ◌+◌, ◌<◌, ◌≤◌}
 use native.Mathlib.Omega.{arith}
 use borrow.Author.Tests.{lt-ltb, le-ltb, le-leb, lt-leb, ltb-true, leb-true}
 use lib.Dec.{ltb, leb}
-use Rattle.laws.proofs.Tests.{both}
 use Rattle.laws.specs.Pick.{pick}
 use Rattle.marks.specs.Used.{used_at}
 use Rattle.model.proofs.Slots.{passes_range, range_passes}
@@ -43,12 +42,9 @@ module _ (m : Mem) (r : ℕ) where
       reads-run_outside h = rw (lt-ltb r (records_in m.nodes) inside, marked, lt-leb _ (slots_in m.slots) h)
 
       module _ (fits : (node_in m.nodes r).start + (node_in m.nodes r).model.l ≤ slots_in m.slots) where
-        pub reads_unfit : (InRange (node_in m.nodes r).model → ⊥) → node_at m r ≡ Err ModelOutOfRange
+        pub reads_unfit : in_range (node_in m.nodes r).model ≡ false → node_at m r ≡ Err ModelOutOfRange
         unfolding node_at node_fits
-        reads_unfit unfit =
-            both (in_range (node_in m.nodes r).model)
-            (λ e. absurd (unfit (passes_range _ e)))
-            (λ e. rw (lt-ltb r (records_in m.nodes) inside, marked, le-leb _ (slots_in m.slots) fits, e))
+        reads_unfit e = rw (lt-ltb r (records_in m.nodes) inside, marked, le-leb _ (slots_in m.slots) fits, e)
 
         pub reads-good : InRange (node_in m.nodes r).model → node_at m r ≡ Ok (node_in m.nodes r)
         unfolding node_at node_fits

@@ -91,12 +91,6 @@ module _ (ns : List ℕ) (r : ℕ) (n : Node) (count : ℕ) where
     put_node_last = sets_within ns (lo_word r) (words_of n count) 7 (omega arith) (omega arith)
 
 module _ (ns : List ℕ) (r : ℕ) where
-  pub zero_record_stores :
-      set (set (set (set (set (set (set (set ns (lo_word r) 0) (w_word r) 0) (l_word r) 0) (start_word r) 0) (elements_word r) 0) (built_word r) 0) (conflicts_word r) 0) (last_word r) 0
-      ≡ zero_record ns r
-  unfolding zero_record
-  zero_record_stores = sets_eight ns (lo_word r) 0 0 0 0 0 0 0 0
-
   pub length-zero_record : length (zero_record ns r) ≡ length ns
   unfolding zero_record
   length-zero_record = length-sets ns (lo_word r) (replicate record_words 0)

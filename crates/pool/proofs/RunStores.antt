@@ -1,22 +1,16 @@
--- Zeroing a run of slots, and a whole pool: what stands at each place afterwards, the length, and the turns of the loops that
--- do it. Assumes nothing.
+-- Zeroing a run of slots: what stands at each place afterwards, and the length. Assumes nothing.
 use mathlib.Core.List.{List}
 use mathlib.Core.Logic.{◌⊎◌, ⊎_elim}
-use mathlib.Core.Path.{◌≡◌, sym, ◌∙◌}
-use Prim.Native.Nat.{ℕ, ◌+◌, ◌-◌, ◌*◌, ◌<◌, ◌≤◌}
+use mathlib.Core.Path.{◌≡◌}
+use Prim.Native.Nat.{ℕ, ◌+◌, ◌*◌, ◌<◌, ◌≤◌}
 use native.Mathlib.Omega.{arith}
-use lib.ListN.{length, get_or, replicate, length-replicate, get_or-replicate}
-use lib.Seq.{sets, length-sets, ext_get_or}
+use lib.ListN.{length, get_or, replicate, length-replicate}
+use lib.Seq.{length-sets}
 use Rattle.pool.specs.Memory.{kind_word, slot_words}
 use Rattle.pool.specs.Writing.{zero_run}
 use Rattle.pool.proofs.Sets.{Words, sets_before, sets_past, sets_zeros, sets_words, zeros-words}
 
 module _ (ss : List ℕ) (start l : ℕ) where
-  -- what is left to zero where the loop begins
-  pub zero_run-start : sets ss (kind_word start) (replicate (kind_word (start + l) - kind_word start) 0) ≡ zero_run ss start l
-  unfolding zero_run
-  zero_run-start = let e : kind_word (start + l) - kind_word start ≡ l * slot_words = omega arith in rw e
-
   pub length-zero_run : length (zero_run ss start l) ≡ length ss
   unfolding zero_run
   length-zero_run = length-sets ss (kind_word start) (replicate (l * slot_words) 0)
@@ -36,16 +30,3 @@ module _ (ss : List ℕ) (start l : ℕ) where
   pub zero_run-words : Words ss → Words (zero_run ss start l)
   unfolding zero_run
   zero_run-words w = sets_words ss (kind_word start) (replicate (l * slot_words) 0) w (zeros-words (l * slot_words))
-
--- all of a list
-pub zeros-whole : (l : List ℕ) → sets l 0 (replicate (length l - 0) 0) ≡ replicate (length l) 0
-zeros-whole l =
-    let e : length l - 0 ≡ length l = omega arith in
-    let n : length (sets l 0 (replicate (length l) 0)) ≡ length l = length-sets l 0 (replicate (length l) 0) in
-    rw e
-    (ext_get_or
-    0
-    (sets l 0 (replicate (length l) 0))
-    (replicate (length l) 0)
-    (n ∙ sym (length-replicate (length l) 0))
-    (λ i h. sets_zeros l 0 (length l) i (omega arith) (omega arith) ∙ sym (get_or-replicate (length l) i 0 0 (omega arith))))

@@ -2,11 +2,13 @@
 -- nothing.
 use mathlib.Core.List.{List, [], ◌∷◌}
 use mathlib.Core.Logic.{⊎_elim}
-use mathlib.Core.Path.{◌≡◌, refl, ap, ◌∙◌}
+use mathlib.Core.Path.{◌≡◌, refl, ◌∙◌}
 use Prim.Native.Nat.{ℕ, zero, suc, ◌+◌, ◌-◌, ◌^◌, ◌<◌, ◌≤◌}
 use native.Mathlib.Omega.{arith}
-use lib.ListN.{length, get_or, set, replicate, length-set, get_or-eq_default}
-use lib.Seq.{sets, get_or-set_same, get_or-set_other, set_out}
+use borrow.Rule.Slice.PartMut.{put_mid}
+use lib.ListN.{length, get_or, set, take, drop, replicate, length-drop, length-replicate, length-set, get_or-eq_default}
+use lib.Seq.{sets, sets-eq, length-take-le, get_or-set_same, get_or-set_other, set_out}
+use Rattle.std.proofs.lemmas.List.{append_assoc, drop-drop}
 use Rattle.laws.proofs.Tests.{le_or_lt}
 use Rattle.marks.proofs.Marks.{store_words}
 
@@ -71,12 +73,17 @@ sets_eight l i a b c d e f g h =
     let p7 : i + 7 ≡ suc (suc (suc (suc (suc (suc (suc i)))))) = omega arith in
     rw (p1, p2, p3, p4, p5, p6, p7)
 
--- a loop that zeros one word a turn: what is left to zero from i to the end is the whole
-pub zeros-step : (l : List ℕ) (i end : ℕ) → i < end → sets l i (replicate (end - i) 0) ≡ sets (set l i 0) (i + 1) (replicate (end - (i + 1)) 0)
-zeros-step l i end h =
-    let f : end - i ≡ suc (end - (i + 1)) = omega arith in
-    let s : suc i ≡ i + 1 = omega arith in
-    rw f (ap (λ (k : ℕ). sets (set l i 0) k (replicate (end - (i + 1)) 0)) s)
+-- the k words from a on written as a part of the list
+pub part_is : (l vs : List ℕ) (a k n : ℕ) → k ≡ n → length vs ≡ n → a + n ≤ length l → put_mid a k l vs ≡ sets l a vs
+part_is l vs a k n e f h =
+    let g : a + length vs ≡ a + k = omega arith in
+    rw (sets-eq vs l a (omega arith), g, drop-drop k a l, append_assoc)
 
-pub zeros-end : (l : List ℕ) (i end : ℕ) → end ≤ i → sets l i (replicate (end - i) 0) ≡ l
-zeros-end l i end h = let f : end - i ≡ 0 = omega arith in rw f
+-- that part filled with zeros
+pub part_filled : (l vs : List ℕ) (a k n : ℕ) → k ≡ n → a + n ≤ length l → vs ≡ replicate (length (take k (drop a l))) 0 → put_mid a k l vs ≡ sets l a (replicate n 0)
+part_filled l vs a k n e h v =
+    let d : length (drop a l) ≡ length l - a = length-drop a l in
+    let c : length (take k (drop a l)) ≡ n = length-take-le k (drop a l) (omega arith) ∙ e in
+    let z : vs ≡ replicate n 0 = rw c at v in
+    let g : length (replicate {A = ℕ} n 0) ≡ n = length-replicate n 0 in
+    rw z (part_is l (replicate n 0) a k n e g h)

@@ -13,7 +13,7 @@ use model::Model;
 
 // A node as its record has it: its model, and the first slot of its run. One that node_at calls good has its model in range
 // and its run of model.l slots within the pool.
-#[derive(Clone, Copy)]
+#[derive(Clone, Copy, Debug, PartialEq, Eq)]
 pub struct Node {
     pub model: Model,
     pub start: usize,
@@ -76,23 +76,12 @@ pub fn node_at(nodes: &[u64], slots: &[u64], used: &[u64], r: usize) -> Result<N
     if count - l < start {
         return Err(Rule::RunOutside);
     }
-    if l < Model::LEAST_SLOTS {
-        return Err(Rule::ModelOutOfRange);
-    }
-    if Model::MOST_SLOTS < l {
-        return Err(Rule::ModelOutOfRange);
-    }
-    if w < 1 {
-        return Err(Rule::ModelOutOfRange);
-    }
-    if Model::VALUE_BOUND < w {
-        return Err(Rule::ModelOutOfRange);
-    }
-    if Model::VALUE_BOUND - w < lo {
+    let model = Model { lo, w, l };
+    if !model.is_in_range() {
         return Err(Rule::ModelOutOfRange);
     }
     Ok(Node {
-        model: Model { lo, w, l },
+        model,
         start: start as usize,
     })
 }
@@ -178,14 +167,7 @@ pub fn zero_record(nodes: &mut [u64], r: usize)
     ensures { nodes.new ≡ zero_record nodes.old r }
 {
     let at = r * Node::RECORD_WORDS;
-    nodes[at] = 0;
-    nodes[at + 1] = 0;
-    nodes[at + 2] = 0;
-    nodes[at + 3] = 0;
-    nodes[at + 4] = 0;
-    nodes[at + 5] = 0;
-    nodes[at + 6] = 0;
-    nodes[at + 7] = 0;
+    nodes[at..at + Node::RECORD_WORDS].fill(0);
 }
 
 // Unused slots are all zeros: the l of them from start on.
@@ -193,21 +175,14 @@ pub fn zero_run(slots: &mut [u64], start: usize, l: usize)
     requires { (start + l) * 2 ≤ length slots.old }
     ensures { slots.new ≡ zero_run slots.old start l }
 {
+    let first = start * Node::SLOT_WORDS;
     let end = (start + l) * Node::SLOT_WORDS;
-    let mut i = start * Node::SLOT_WORDS;
-    while i < end {
-        slots[i] = 0;
-        i += 1;
-    }
+    slots[first..end].fill(0);
 }
 
 // A whole pool of zeros.
 pub fn zero_all(words: &mut [u64])
     ensures { words.new ≡ replicate (length words.old) 0 }
 {
-    let mut k = 0;
-    while k < words.len() {
-        words[k] = 0;
-        k += 1;
-    }
+    words.fill(0);
 }

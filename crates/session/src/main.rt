@@ -17,7 +17,7 @@ use std::io::{Input, Print, Read};
 use store::Handle;
 
 // Where a session stands: the handle, how many bytes of the input lie before those held, how many are held, and whether no more come.
-#[derive(Clone, Copy)]
+#[derive(Clone, Copy, Debug, PartialEq, Eq)]
 pub struct Stage {
     pub handle: Handle,
     pub offset: u64,
@@ -40,7 +40,7 @@ impl Stage {
 }
 
 // What one turn leaves: where the session stands, how many bytes are to be written out, and why the block was left.
-#[derive(Clone, Copy)]
+#[derive(Clone, Copy, Debug, PartialEq, Eq)]
 pub struct Turn {
     pub stage: Stage,
     pub printed: usize,

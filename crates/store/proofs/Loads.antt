@@ -7,7 +7,6 @@ use mathlib.Core.Path.{◌≡◌, refl, sym, ap, ◌∙◌}
 use Prim.Native.Nat.{ℕ, ◌+◌, ◌*◌, ◌<◌, ◌≤◌}
 use native.Mathlib.Omega.{arith}
 use borrow.Author.Tests.{le-leb, lt-leb, eqb-true}
-use lib.Dec.{eqb}
 use lib.ListN.{length, length-replicate}
 use Rattle.build.proofs.Rooms.{empty_builds, builds_empty}
 use Rattle.build.specs.Building.{Out, out, build}
@@ -27,21 +26,7 @@ use Rattle.laws.specs.declared.Refusal.TheVariants.{WrongSizes, Full, NoRoom}
 use Rattle.store.specs.declared.Handle.{Handle}
 use Rattle.walk.specs.Walks.{longest_path}
 
--- the tests of a load's sizes, as the code goes
 module _ (c : ℕ) (ks ps : List ℕ) (m : Mem) where
-  pub load_no_limits : limits_hold c (records_in m.nodes) (slots_in m.slots) ≡ false → false ≡ load_fits c ks ps m
-  unfolding load_fits
-  load_no_limits e = rw e
-
-  module _ (e : limits_hold c (records_in m.nodes) (slots_in m.slots) ≡ true) where
-    pub load_no_pools : pools_are (records_in m.nodes) (slots_in m.slots) m ≡ false → false ≡ load_fits c ks ps m
-    unfolding load_fits
-    load_no_pools f = rw (e, f)
-
-    pub load_lists : pools_are (records_in m.nodes) (slots_in m.slots) m ≡ true → eqb (length ks) (length ps) ≡ load_fits c ks ps m
-    unfolding load_fits
-    load_lists f = rw (e, f)
-
   -- what is known of a list and pools that pass, rise and fit
   pub loadable : load_fits c ks ps m ≡ true → length ks ≤ c → first_fault ks ≡ None → Loadable ks ps m
   unfolding load_fits

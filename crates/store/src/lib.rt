@@ -17,7 +17,7 @@ pub mod bands;
 
 // What names a store between calls: the root's record, the count of keys, the capacity and the pools' sizes.
 #[repr(C)]
-#[derive(Clone, Copy)]
+#[derive(Clone, Copy, Debug, PartialEq, Eq)]
 pub struct Handle {
     pub root: usize,
     pub count: usize,
@@ -76,16 +76,13 @@ impl Handle {
     }
 
     // Are the sizes within the limits, the lent lists just those of the sizes, and the count within the capacity?
+    #[tactic(auto, using(crate::proofs::Fitting::limits_given), unfolding(crate::specs::Handles::handle_fits))]
     pub fn fits(self, nodes: &[u64], slots: &[u64], used: &[u64]) -> bool
         ensures { result ≡ handle_fits self (mem nodes.now slots.now used.now) }
     {
-        if !limits_hold(self.capacity, self.records, self.slots) {
-            return false;
-        }
-        if !pools_are(self.records, self.slots, nodes, slots, used) {
-            return false;
-        }
-        self.count <= self.capacity
+        limits_hold(self.capacity, self.records, self.slots)
+            && pools_are(self.records, self.slots, nodes, slots, used)
+            && self.count <= self.capacity
     }
 }
 
@@ -122,7 +119,7 @@ pub struct Looked {
 }
 
 // What a changing call gives: its answer and the next handle.
-#[derive(Clone, Copy)]
+#[derive(Clone, Copy, Debug, PartialEq, Eq)]
 pub struct Changing<T> {
     pub answer: Result<T, Refusal>,
     pub handle: Handle,
@@ -136,30 +133,16 @@ impl<T> Changing<T> {
     }
 }
 
+#[tactic(auto, unfolding(crate::specs::Handles::limits_hold))]
 fn limits_hold(capacity: usize, records: usize, slots: usize) -> bool
     ensures { result ≡ limits_hold capacity records slots }
 {
-    if capacity < Handle::LEAST_CAPACITY {
-        return false;
-    }
-    if Handle::MOST_CAPACITY < capacity {
-        return false;
-    }
-    if records < Handle::LEAST_RECORDS {
-        return false;
-    }
-    if Handle::MOST_RECORDS < records {
-        return false;
-    }
-    if slots < Handle::LEAST_SLOTS {
-        return false;
-    }
-    if Handle::MOST_SLOTS < slots {
-        return false;
-    }
-    true
+    (Handle::LEAST_CAPACITY..=Handle::MOST_CAPACITY).contains(&capacity)
+        && (Handle::LEAST_RECORDS..=Handle::MOST_RECORDS).contains(&records)
+        && (Handle::LEAST_SLOTS..=Handle::MOST_SLOTS).contains(&slots)
 }
 
+#[tactic(auto, unfolding(crate::specs::Handles::pools_are))]
 fn pools_are(
     records: usize,
     slots: usize,
@@ -170,13 +153,9 @@ fn pools_are(
     requires { (records ≤ most_records) × (slots ≤ most_pool_slots) }
     ensures { result ≡ pools_are records slots (mem node_words.now slot_words.now used.now) }
 {
-    if node_words.len() != records * Node::RECORD_WORDS {
-        return false;
-    }
-    if slot_words.len() != slots * Node::SLOT_WORDS {
-        return false;
-    }
-    used.len() == (records + slots + 63) / 64
+    node_words.len() == records * Node::RECORD_WORDS
+        && slot_words.len() == slots * Node::SLOT_WORDS
+        && used.len() == (records + slots + 63) / 64
 }
 
 // What lookup, replace and delete begin with.
@@ -266,6 +245,7 @@ fn first_fault(keys: &[u64]) -> Option<Fault>
 }
 
 // Are the capacity and the lent lists of a load of the right sizes?
+#[tactic(auto, using(crate::proofs::Fitting::limits_given), unfolding(crate::specs::Loading::load_fits))]
 fn load_fits(
     capacity: usize,
     keys: &[u64],
@@ -278,13 +258,9 @@ fn load_fits(
 {
     let records = nodes.len() / Node::RECORD_WORDS;
     let count = slots.len() / Node::SLOT_WORDS;
-    if !limits_hold(capacity, records, count) {
-        return false;
-    }
-    if !pools_are(records, count, nodes, slots, used) {
-        return false;
-    }
-    keys.len() == payloads.len()
+    limits_hold(capacity, records, count)
+        && pools_are(records, count, nodes, slots, used)
+        && keys.len() == payloads.len()
 }
 
 // Zeros for every word.

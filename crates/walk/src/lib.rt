@@ -12,7 +12,7 @@ use pool::{Node, Rule, Slot};
 pub mod reading;
 
 // Where a key's path ends: at a NULL slot, at a DATA slot with its key, or at a broken rule.
-#[derive(Clone, Copy)]
+#[derive(Clone, Copy, Debug, PartialEq, Eq)]
 pub enum End {
     Empty(usize),
     Key(usize, u64),
@@ -20,14 +20,14 @@ pub enum End {
 }
 
 // One node of a walk: down to a child, or the end.
-#[derive(Clone, Copy)]
+#[derive(Clone, Copy, Debug, PartialEq, Eq)]
 pub enum Step {
     Down(usize),
     Stop(End),
 }
 
 // The nodes on a key's path, the root first.
-#[derive(Clone, Copy)]
+#[derive(Clone, Copy, Debug, PartialEq, Eq)]
 pub struct Path {
     pub nodes: [usize; Path::LONGEST],
     pub len: usize,
@@ -52,28 +52,28 @@ impl Path {
 }
 
 // A walk's end, with how many nodes were visited.
-#[derive(Clone, Copy)]
+#[derive(Clone, Copy, Debug, PartialEq, Eq)]
 pub struct Followed {
     pub end: End,
     pub visits: usize,
 }
 
 // A walk's end, with the nodes on the way.
-#[derive(Clone, Copy)]
+#[derive(Clone, Copy, Debug, PartialEq, Eq)]
 pub struct Traced {
     pub end: End,
     pub path: Path,
 }
 
 // What a reading takes in each node: the slots from u's to v's, or all.
-#[derive(Clone, Copy)]
+#[derive(Clone, Copy, Debug, PartialEq, Eq)]
 pub enum Span {
     Between(u64, u64),
     Whole,
 }
 
 // What a reading meets: a node, an element with its slot, a broken rule; or its end.
-#[derive(Clone, Copy)]
+#[derive(Clone, Copy, Debug, PartialEq, Eq)]
 pub enum Event {
     Enter(usize, Node),
     Element(usize, u64),
@@ -83,7 +83,7 @@ pub enum Event {
 
 // Where a reading stands: the node it reads, its next slot and the one past its last, and how many nodes lie above it within
 // the reading. Their records and next slots lie in two lent lists of 24, highest first.
-#[derive(Clone, Copy)]
+#[derive(Clone, Copy, Debug, PartialEq, Eq)]
 pub struct Cursor {
     pub record: usize,
     pub node: Node,
@@ -93,7 +93,7 @@ pub struct Cursor {
 }
 
 // One step of a reading: what was met, and where it stands then.
-#[derive(Clone, Copy)]
+#[derive(Clone, Copy, Debug, PartialEq, Eq)]
 pub struct Moved {
     pub event: Event,
     pub cursor: Cursor,
@@ -101,7 +101,7 @@ pub struct Moved {
 
 // The rules of a whole reading: how many nodes and keys it may still meet, the least key that still rises, and in a rebuild the
 // key that may not be met and that every run is wholly marked.
-#[derive(Clone, Copy)]
+#[derive(Clone, Copy, Debug, PartialEq, Eq)]
 pub struct Rules {
     pub nodes: usize,
     pub keys: usize,
@@ -111,7 +111,7 @@ pub struct Rules {
 }
 
 // What a reading under the rules meets: an element with its slot, a broken rule, or its end.
-#[derive(Clone, Copy)]
+#[derive(Clone, Copy, Debug, PartialEq, Eq)]
 pub enum Item {
     Held(usize, u64),
     Broken,
@@ -119,7 +119,7 @@ pub enum Item {
 }
 
 // One item of a reading: what was met, the rules after it, and where the reading stands then.
-#[derive(Clone, Copy)]
+#[derive(Clone, Copy, Debug, PartialEq, Eq)]
 pub struct Next {
     pub item: Item,
     pub rules: Rules,

@@ -2,6 +2,7 @@
 -- nothing.
 use mathlib.Core.Path.{sym, ◌∙◌}
 use native.Mathlib.Omega.{arith}
+use Rattle.model.proofs.Slots.{passes_range}
 use Rattle.pool.specs.Reading.{node_in}
 use Rattle.pool.proofs.Nodes.{reads_outside, reads_unmarked, reads-run_outside, reads_unfit, reads-good}
 use Rattle.pool.proofs.node_at.Goals as goal
@@ -20,25 +21,11 @@ pub returns-then-count-l-2 : goal.returns-then-count-l-2
 unfolding node_in
 returns-then-count-l-2 c = sym (reads-run_outside _ _ (omega arith) (sym c.is_used.ensures ∙ c.if-not-is_used.false) (omega arith))
 
-pub returns-then-l-lt-LEAST_SLOTS : goal.returns-then-l-lt-LEAST_SLOTS
+pub returns-then-not-is_in_range : goal.returns-then-not-is_in_range
 unfolding node_in
-returns-then-l-lt-LEAST_SLOTS c = sym (reads_unfit _ _ (omega arith) (sym c.is_used.ensures ∙ c.if-not-is_used.false) (omega arith) (λ range. omega arith))
-
-pub returns-then-l-gt-MOST_SLOTS : goal.returns-then-l-gt-MOST_SLOTS
-unfolding node_in
-returns-then-l-gt-MOST_SLOTS c = sym (reads_unfit _ _ (omega arith) (sym c.is_used.ensures ∙ c.if-not-is_used.false) (omega arith) (λ range. omega arith))
-
-pub returns-then-w-lt1 : goal.returns-then-w-lt1
-unfolding node_in
-returns-then-w-lt1 c = sym (reads_unfit _ _ (omega arith) (sym c.is_used.ensures ∙ c.if-not-is_used.false) (omega arith) (λ range. omega arith))
-
-pub returns-then-w-gt-VALUE_BOUND : goal.returns-then-w-gt-VALUE_BOUND
-unfolding node_in
-returns-then-w-gt-VALUE_BOUND c = sym (reads_unfit _ _ (omega arith) (sym c.is_used.ensures ∙ c.if-not-is_used.false) (omega arith) (λ range. omega arith))
-
-pub returns-then-w-lo : goal.returns-then-w-lo
-unfolding node_in
-returns-then-w-lo c = sym (reads_unfit _ _ (omega arith) (sym c.is_used.ensures ∙ c.if-not-is_used.false) (omega arith) (λ range. omega arith))
+returns-then-not-is_in_range c =
+    sym
+    (reads_unfit _ _ (omega arith) (sym c.is_used.ensures ∙ c.if-not-is_used.false) (omega arith) (sym c.is_in_range.ensures ∙ c.if-not-is_in_range.true))
 
 pub returns : goal.returns
 unfolding node_in
@@ -50,4 +37,4 @@ returns c =
     (omega arith)
     (sym c.is_used.ensures ∙ c.if-not-is_used.false)
     (omega arith)
-    (record { least = omega arith; most = omega arith; wide = omega arith; top = omega arith }))
+    (passes_range _ (sym c.is_in_range.ensures ∙ c.if-not-is_in_range.false)))
