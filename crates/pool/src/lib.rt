@@ -119,14 +119,8 @@ pub fn put_node(nodes: &mut [u64], r: usize, n: Node, count: u64)
 {
     let at = r * Node::RECORD_WORDS;
     let m = n.model;
-    nodes[at] = m.lo;
-    nodes[at + 1] = m.w;
-    nodes[at + 2] = m.l;
-    nodes[at + 3] = n.start as u64;
-    nodes[at + 4] = count;
-    nodes[at + 5] = count;
-    nodes[at + 6] = 0;
-    nodes[at + 7] = 0;
+    let words = [m.lo, m.w, m.l, n.start as u64, count, count, 0, 0];
+    nodes[at..at + Node::RECORD_WORDS].copy_from_slice(&words);
 }
 
 // Slot q holds a key and its payload.
