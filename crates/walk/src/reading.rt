@@ -3,7 +3,8 @@
 ghost use Rattle.std.specs.Prelude.{◌≡◌, ℕ, ◌+◌, ◌-◌, ◌^◌, ◌<◌, ◌≤◌, length, get_or, List};
 ghost use Rattle.laws.specs.Keys.{key_bound};
 ghost use Rattle.model.specs.Slots.{InRange};
-ghost use Rattle.pool.specs.Memory.{mem, slots_in, kind_word, kind_unit};
+ghost use Rattle.pool.specs.Memory.{slots_in, kind_word, kind_unit};
+ghost use Rattle.pool.specs.Pools.{memory_of};
 ghost use Rattle.pool.specs.Reading.{slot_at};
 ghost use Rattle.walk.specs.Cursors.{remains, told};
 ghost use Rattle.walk.specs.Events.{first_in, last_in, events_of};
@@ -13,7 +14,7 @@ ghost use Rattle.walk.specs.Walks.{longest_path};
 
 use crate::{Cursor, Event, Item, Moved, Next, Path, Rules, Span};
 use model::Model;
-use pool::{Node, Rule, Slot};
+use pool::{Node, Pools, Rule, Slot};
 
 // The first slot that a reading takes in a node, and the one past its last.
 fn first_in(span: Span, m: Model) -> usize
@@ -54,20 +55,13 @@ fn skip_null(slots: &[u64], start: usize, at: usize, end: usize) -> usize
 }
 
 // A reading of the tree below record r, whose path has `above` nodes before it: its first event.
-pub fn start(
-    nodes: &[u64],
-    slots: &[u64],
-    used: &[u64],
-    span: Span,
-    above: usize,
-    r: usize,
-) -> Moved
+pub fn start(pools: Pools, span: Span, above: usize, r: usize) -> Moved
     requires span_fits { SpanFits span }
     requires above_lt_longest_path { above < longest_path }
-    ensures { (rs js : List ℕ) → Moves span (mem nodes.now slots.now used.now) above
-        (events_of span (mem nodes.now slots.now used.now) above r) result rs js }
+    ensures { (rs js : List ℕ) → Moves span (memory_of pools.entry) above
+        (events_of span (memory_of pools.entry) above r) result rs js }
 {
-    match pool::node_at(nodes, slots, used, r) {
+    match pools.node_at(r) {
         Ok(n) => {
             let m = n.model;
             let at = first_in(span, m);
@@ -101,9 +95,7 @@ pub fn start(
 
 // A NODE slot, whose child is r: down to the child if its record is good and the path has room for it.
 fn descend(
-    nodes: &[u64],
-    slots: &[u64],
-    used: &[u64],
+    pools: Pools,
     span: Span,
     above: usize,
     c: Cursor,
@@ -112,18 +104,18 @@ fn descend(
     places: &mut [usize],
 ) -> Moved
     requires span_fits { SpanFits span }
-    requires standing { Standing span (mem nodes.now slots.now used.now) above c }
+    requires standing { Standing span (memory_of pools) above c }
     requires at_lt_end { c.at < c.end }
-    requires at_value { slot_at slots.now c.node c.at ≡ Ok (Slot.Child r) }
+    requires at_value { slot_at pools.slots.now c.node c.at ≡ Ok (Slot.Child r) }
     requires longest_path_in_bounds { (longest_path ≤ length records.old) × (longest_path ≤ length places.old) }
-    ensures { Moves span (mem nodes.now slots.now used.now) above
-        (remains span (mem nodes.now slots.now used.now) (below above c) c records.old places.old)
+    ensures { Moves span (memory_of pools.entry) above
+        (remains span (memory_of pools.entry) (below above c) c records.old places.old)
         result records.new places.new }
 {
     let slot = c.at + 1;
     let mut past = c;
     past.at = slot;
-    match pool::node_at(nodes, slots, used, r) {
+    match pools.node_at(r) {
         Err(rule) => Moved {
             event: Event::Damage(rule),
             cursor: past,
@@ -157,9 +149,7 @@ fn descend(
 
 // What the cursor's slot says, which is not NULL.
 fn meet(
-    nodes: &[u64],
-    slots: &[u64],
-    used: &[u64],
+    pools: Pools,
     span: Span,
     above: usize,
     c: Cursor,
@@ -167,24 +157,24 @@ fn meet(
     places: &mut [usize],
 ) -> Moved
     requires span_fits { SpanFits span }
-    requires standing { Standing span (mem nodes.now slots.now used.now) above c }
+    requires standing { Standing span (memory_of pools) above c }
     requires at_lt_end { c.at < c.end }
-    requires kind_unit_bound { kind_unit ≤ get_or slots.now (kind_word (c.node.start + c.at)) 0 }
+    requires kind_unit_bound { kind_unit ≤ get_or pools.slots.now (kind_word (c.node.start + c.at)) 0 }
     requires longest_path_in_bounds { (longest_path ≤ length records.old) × (longest_path ≤ length places.old) }
-    ensures { Moves span (mem nodes.now slots.now used.now) above
-        (remains span (mem nodes.now slots.now used.now) (below above c) c records.old places.old)
+    ensures { Moves span (memory_of pools.entry) above
+        (remains span (memory_of pools.entry) (below above c) c records.old places.old)
         result records.new places.new }
 {
     let n = c.node;
     let at = c.at;
     let mut past = c;
     past.at = at + 1;
-    match pool::slot_at(slots, n, at) {
+    match pools.slot_at(n, at) {
         Ok(Slot::Data(k)) => Moved {
             event: Event::Element(n.start + at, k),
             cursor: past,
         },
-        Ok(Slot::Child(r)) => descend(nodes, slots, used, span, above, c, r, records, places),
+        Ok(Slot::Child(r)) => descend(pools, span, above, c, r, records, places),
         Err(rule) => Moved {
             event: Event::Damage(rule),
             cursor: past,
@@ -198,9 +188,7 @@ fn meet(
 
 // One step: the next event, from the cursor on. A node that is done leads up to the one above it.
 pub fn next(
-    nodes: &[u64],
-    slots: &[u64],
-    used: &[u64],
+    pools: Pools,
     span: Span,
     above: usize,
     from: Cursor,
@@ -208,20 +196,20 @@ pub fn next(
     places: &mut [usize],
 ) -> Moved
     requires span_fits { SpanFits span }
-    requires standing { Standing span (mem nodes.now slots.now used.now) above from }
+    requires standing { Standing span (memory_of pools) above from }
     requires longest_path_in_bounds { (longest_path ≤ length records.old) × (longest_path ≤ length places.old) }
-    ensures { Moves span (mem nodes.now slots.now used.now) above
-        (remains span (mem nodes.now slots.now used.now) (below above from) from records.old places.old)
+    ensures { Moves span (memory_of pools.entry) above
+        (remains span (memory_of pools.entry) (below above from) from records.old places.old)
         result records.new places.new }
 {
     let mut c = from;
     loop {
         let n = c.node;
         let end = c.end;
-        let at = skip_null(slots, n.start, c.at, end);
+        let at = skip_null(pools.slots, n.start, c.at, end);
         if at < end {
             c.at = at;
-            return meet(nodes, slots, used, span, above, c, records, places);
+            return meet(pools, span, above, c, records, places);
         }
         if c.depth < 1 {
             return Moved {
@@ -231,7 +219,7 @@ pub fn next(
         }
         let depth = c.depth - 1;
         let r = records[depth];
-        match pool::node_at(nodes, slots, used, r) {
+        match pools.node_at(r) {
             Ok(n) => {
                 let m = n.model;
                 let end = past_last(span, m);
@@ -260,9 +248,9 @@ pub fn next(
 }
 
 // May one node more be entered: in a rebuild its run has to be wholly marked too.
-fn may_enter(nodes: &[u64], used: &[u64], rules: Rules, n: Node) -> bool
+fn may_enter(pools: Pools, rules: Rules, n: Node) -> bool
     requires { n.start + n.model.l < 2 ^ 62 }
-    ensures { (ss : List ℕ) → result ≡ may_enter (mem nodes.now ss used.now) rules n }
+    ensures { result ≡ may_enter (memory_of pools.entry) rules n }
 {
     if rules.nodes < 1 {
         return false;
@@ -271,11 +259,7 @@ fn may_enter(nodes: &[u64], used: &[u64], rules: Rules, n: Node) -> bool
         return true;
     }
     let m = n.model;
-    marks::is_full_run(
-        used,
-        nodes.len() / Node::RECORD_WORDS + n.start,
-        m.l as usize,
-    )
+    marks::is_full_run(pools.used, pools.records() + n.start, m.l as usize)
 }
 
 // May this key be read: it rises; in a rebuild one key more may be read too, and it is not the new one.
@@ -319,9 +303,7 @@ fn after_key(rules: Rules, k: u64) -> Rules
 
 // From an event on to the next element, a broken rule or the end. Each node entered leaves one less to enter.
 fn find_item(
-    nodes: &[u64],
-    slots: &[u64],
-    used: &[u64],
+    pools: Pools,
     span: Span,
     above: usize,
     from: Moved,
@@ -330,10 +312,10 @@ fn find_item(
     places: &mut [usize],
 ) -> Next
     requires span_fits { SpanFits span }
-    requires stands { Stands span (mem nodes.now slots.now used.now) above from.event from.cursor }
+    requires stands { Stands span (memory_of pools) above from.event from.cursor }
     requires longest_path_in_bounds { (longest_path ≤ length records.old) × (longest_path ≤ length places.old) }
-    ensures { Finds span (mem nodes.now slots.now used.now) above rules
-        (told from.event (remains span (mem nodes.now slots.now used.now) (below above from.cursor) from.cursor
+    ensures { Finds span (memory_of pools.entry) above rules
+        (told from.event (remains span (memory_of pools.entry) (below above from.cursor) from.cursor
         records.old places.old)) result records.new places.new }
 {
     let mut moved = from;
@@ -343,7 +325,7 @@ fn find_item(
         let cursor = moved.cursor;
         match event {
             Event::Enter(_, n) => {
-                if !may_enter(nodes, used, left, n) {
+                if !may_enter(pools, left, n) {
                     return Next {
                         item: Item::Broken,
                         rules: left,
@@ -351,7 +333,7 @@ fn find_item(
                     };
                 }
                 left = after_node(left);
-                moved = next(nodes, slots, used, span, above, cursor, records, places);
+                moved = next(pools, span, above, cursor, records, places);
             }
             Event::Element(q, k) => {
                 if !may_hold(left, k) {
@@ -388,9 +370,7 @@ fn find_item(
 
 // The first item of a reading of the tree below record r, whose path has `above` nodes before it.
 pub fn first_item(
-    nodes: &[u64],
-    slots: &[u64],
-    used: &[u64],
+    pools: Pools,
     span: Span,
     above: usize,
     r: usize,
@@ -401,20 +381,16 @@ pub fn first_item(
     requires span_fits { SpanFits span }
     requires above_lt_longest_path { above < longest_path }
     requires longest_path_in_bounds { (longest_path ≤ length records.old) × (longest_path ≤ length places.old) }
-    ensures { Finds span (mem nodes.now slots.now used.now) above rules
-        (events_of span (mem nodes.now slots.now used.now) above r) result records.new places.new }
+    ensures { Finds span (memory_of pools.entry) above rules
+        (events_of span (memory_of pools.entry) above r) result records.new places.new }
 {
-    let first = start(nodes, slots, used, span, above, r);
-    find_item(
-        nodes, slots, used, span, above, first, rules, records, places,
-    )
+    let first = start(pools, span, above, r);
+    find_item(pools, span, above, first, rules, records, places)
 }
 
 // The next item, from the cursor on.
 pub fn next_item(
-    nodes: &[u64],
-    slots: &[u64],
-    used: &[u64],
+    pools: Pools,
     span: Span,
     above: usize,
     from: Cursor,
@@ -423,14 +399,12 @@ pub fn next_item(
     places: &mut [usize],
 ) -> Next
     requires span_fits { SpanFits span }
-    requires standing { Standing span (mem nodes.now slots.now used.now) above from }
+    requires standing { Standing span (memory_of pools) above from }
     requires longest_path_in_bounds { (longest_path ≤ length records.old) × (longest_path ≤ length places.old) }
-    ensures { Finds span (mem nodes.now slots.now used.now) above rules
-        (remains span (mem nodes.now slots.now used.now) (below above from) from records.old places.old)
+    ensures { Finds span (memory_of pools.entry) above rules
+        (remains span (memory_of pools.entry) (below above from) from records.old places.old)
         result records.new places.new }
 {
-    let first = next(nodes, slots, used, span, above, from, records, places);
-    find_item(
-        nodes, slots, used, span, above, first, rules, records, places,
-    )
+    let first = next(pools, span, above, from, records, places);
+    find_item(pools, span, above, first, rules, records, places)
 }

@@ -2,7 +2,7 @@
 -- where it began (proofs/Siftings). The measure is how many nodes may still be entered. Assumes nothing.
 use mathlib.Core.Path.{◌≡◌}
 use lib.ListN.{length}
-use Rattle.pool.specs.Memory.{mem}
+use Rattle.pool.specs.Pools.{memory_of}
 use Rattle.walk.specs.Cursors.{remains, told}
 use Rattle.walk.specs.Items.{items}
 use Rattle.walk.specs.Moves.{below, Stands}
@@ -10,9 +10,9 @@ use Rattle.walk.proofs.reading.find_item.Given as goal
 
 abbrev pub invariant-loop-n : goal.invariant-loop-n
 invariant-loop-n l =
-    Stands l.span (mem l.nodes l.slots l.used) l.above l.moved.event l.moved.cursor × (((length l.records ≡ length l.initial.records) × (length l.places ≡ length l.initial.places))
-    × (items (mem l.nodes l.slots l.used) l.left (told l.moved.event (remains l.span (mem l.nodes l.slots l.used) (below l.above l.moved.cursor) l.moved.cursor l.records l.places))
-    ≡ items (mem l.nodes l.slots l.used) l.initial.left (told l.initial.moved.event (remains l.span (mem l.nodes l.slots l.used) (below l.above l.initial.moved.cursor) l.initial.moved.cursor l.initial.records l.initial.places))))
+    Stands l.span (memory_of l.pools) l.above l.moved.event l.moved.cursor × (((length l.records ≡ length l.initial.records) × (length l.places ≡ length l.initial.places))
+    × (items (memory_of l.pools) l.left (told l.moved.event (remains l.span (memory_of l.pools) (below l.above l.moved.cursor) l.moved.cursor l.records l.places))
+    ≡ items (memory_of l.pools) l.initial.left (told l.initial.moved.event (remains l.span (memory_of l.pools) (below l.above l.initial.moved.cursor) l.initial.moved.cursor l.initial.records l.initial.places))))
 
 abbrev pub decreases-loop-n : goal.decreases-loop-n
 decreases-loop-n l = l.left.nodes

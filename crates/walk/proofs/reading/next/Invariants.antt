@@ -2,15 +2,15 @@
 -- left where the step began (proofs/Readings). The measure is the depth. Assumes nothing.
 use mathlib.Core.Path.{◌≡◌}
 use lib.ListN.{length}
-use Rattle.pool.specs.Memory.{mem}
+use Rattle.pool.specs.Pools.{memory_of}
 use Rattle.walk.specs.Cursors.{remains}
 use Rattle.walk.specs.Moves.{below, Standing}
 use Rattle.walk.proofs.reading.next.Given as goal
 
 abbrev pub invariant-loop-n : goal.invariant-loop-n
 invariant-loop-n l =
-    Standing l.span (mem l.nodes l.slots l.used) l.above l.c × (((length l.records ≡ length l.initial.records) × (length l.places ≡ length l.initial.places))
-    × (remains l.span (mem l.nodes l.slots l.used) (below l.above l.c) l.c l.records l.places ≡ remains l.span (mem l.nodes l.slots l.used) (below l.above l.initial.c) l.initial.c l.initial.records l.initial.places))
+    Standing l.span (memory_of l.pools) l.above l.c × (((length l.records ≡ length l.initial.records) × (length l.places ≡ length l.initial.places))
+    × (remains l.span (memory_of l.pools) (below l.above l.c) l.c l.records l.places ≡ remains l.span (memory_of l.pools) (below l.above l.initial.c) l.initial.c l.initial.records l.initial.places))
 
 abbrev pub decreases-loop-n : goal.decreases-loop-n
 decreases-loop-n l = l.c.depth
