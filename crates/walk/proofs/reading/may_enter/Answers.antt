@@ -10,4 +10,4 @@ pub returns-then-not-rules : goal.returns-then-not-rules
 returns-then-not-rules c = enters_plain _ _ _ c.if-rules-lt1.false (not-true _ c.if-not-rules.true)
 
 pub returns : goal.returns
-returns c = enters_marked _ _ _ c.if-rules-lt1.false (not-false _ c.if-not-rules.false) _ c.is_full_run.ensures
+returns c = enters_marked _ _ _ c.if-rules-lt1.false (not-false _ c.if-not-rules.false) _ (rw c.records.ensures at c.is_full_run.ensures)
