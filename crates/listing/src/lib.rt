@@ -5,7 +5,8 @@
 ghost use Rattle.std.specs.Prelude.{true, false, ◌&&◌, map, ◌≡◌, ℕ, ◌+◌, ◌^◌, ◌<◌, ◌≤◌, leb, length, get_or};
 ghost use Rattle.std.proofs.lemmas.List.Edits.{sets};
 ghost use Rattle.listing.specs.Listing.{listing, left, Lands, count_from};
-ghost use Rattle.pool.specs.Memory.{mem, payload_word};
+ghost use Rattle.pool.specs.Memory.{payload_word};
+ghost use Rattle.pool.specs.Pools.{memory_of};
 ghost use Rattle.walk.specs.Cursors.{remains};
 ghost use Rattle.walk.specs.Events.{events_of};
 ghost use Rattle.walk.specs.Items.{items};
@@ -13,7 +14,7 @@ ghost use Rattle.walk.specs.Moves.{SpanFits, Holds, Standing, below};
 ghost use Rattle.walk.specs.Walks.{longest_path};
 
 use laws::Refusal;
-use pool::Node;
+use pool::{Node, Pools};
 use walk::{Item, Next, Path, Rules, Span};
 
 // How many elements are listed, and whether more remain.
@@ -50,9 +51,7 @@ fn inside(u: u64, v: u64, k: u64) -> bool
 
 // From an item on to the next between u and v.
 fn to_listed(
-    nodes: &[u64],
-    slots: &[u64],
-    used: &[u64],
+    pools: Pools,
     span: Span,
     above: usize,
     u: u64,
@@ -62,10 +61,10 @@ fn to_listed(
     places: &mut [usize],
 ) -> Next
     requires span_fits { SpanFits span }
-    requires holds { Holds span (mem nodes.now slots.now used.now) above from.item from.cursor }
+    requires holds { Holds span (memory_of pools) above from.item from.cursor }
     requires longest_path_in_bounds { (longest_path ≤ length records.old) × (longest_path ≤ length places.old) }
-    ensures { Lands span (mem nodes.now slots.now used.now) above u v
-        (left span (mem nodes.now slots.now used.now) above from records.old places.old)
+    ensures { Lands span (memory_of pools.entry) above u v
+        (left span (memory_of pools.entry) above from records.old places.old)
         result records.new places.new }
 {
     let mut next = from;
@@ -78,9 +77,7 @@ fn to_listed(
                 }
                 let cursor = next.cursor;
                 let rules = next.rules;
-                next = walk::reading::next_item(
-                    nodes, slots, used, span, above, cursor, rules, records, places,
-                );
+                next = walk::reading::next_item(pools, span, above, cursor, rules, records, places);
             }
             Item::Broken => {
                 return next;
@@ -94,9 +91,7 @@ fn to_listed(
 
 // The first element between u and v of the tree below record r, whose path has `above` nodes before it; and the next after an element.
 fn first_listed(
-    nodes: &[u64],
-    slots: &[u64],
-    used: &[u64],
+    pools: Pools,
     span: Span,
     above: usize,
     r: usize,
@@ -109,23 +104,17 @@ fn first_listed(
     requires span_fits { SpanFits span }
     requires above_lt_longest_path { above < longest_path }
     requires longest_path_in_bounds { (longest_path ≤ length records.old) × (longest_path ≤ length places.old) }
-    ensures { Lands span (mem nodes.now slots.now used.now) above u v
-        (items (mem nodes.now slots.now used.now) rules
-        (events_of span (mem nodes.now slots.now used.now) above r))
+    ensures { Lands span (memory_of pools.entry) above u v
+        (items (memory_of pools.entry) rules
+        (events_of span (memory_of pools.entry) above r))
         result records.new places.new }
 {
-    let first = walk::reading::first_item(
-        nodes, slots, used, span, above, r, rules, records, places,
-    );
-    to_listed(
-        nodes, slots, used, span, above, u, v, first, records, places,
-    )
+    let first = walk::reading::first_item(pools, span, above, r, rules, records, places);
+    to_listed(pools, span, above, u, v, first, records, places)
 }
 
 fn next_listed(
-    nodes: &[u64],
-    slots: &[u64],
-    used: &[u64],
+    pools: Pools,
     span: Span,
     above: usize,
     u: u64,
@@ -135,26 +124,22 @@ fn next_listed(
     places: &mut [usize],
 ) -> Next
     requires span_fits { SpanFits span }
-    requires standing { Standing span (mem nodes.now slots.now used.now) above from.cursor }
+    requires standing { Standing span (memory_of pools) above from.cursor }
     requires longest_path_in_bounds { (longest_path ≤ length records.old) × (longest_path ≤ length places.old) }
-    ensures { Lands span (mem nodes.now slots.now used.now) above u v
-        (items (mem nodes.now slots.now used.now) from.rules
-        (remains span (mem nodes.now slots.now used.now) (below above from.cursor) from.cursor
+    ensures { Lands span (memory_of pools.entry) above u v
+        (items (memory_of pools.entry) from.rules
+        (remains span (memory_of pools.entry) (below above from.cursor) from.cursor
         records.old places.old)) result records.new places.new }
 {
     let cursor = from.cursor;
     let rules = from.rules;
-    let next = walk::reading::next_item(
-        nodes, slots, used, span, above, cursor, rules, records, places,
-    );
-    to_listed(nodes, slots, used, span, above, u, v, next, records, places)
+    let next = walk::reading::next_item(pools, span, above, cursor, rules, records, places);
+    to_listed(pools, span, above, u, v, next, records, places)
 }
 
 // The first reading, which writes nothing: up to the first element beyond the room.
 pub fn count(
-    nodes: &[u64],
-    slots: &[u64],
-    used: &[u64],
+    pools: Pools,
     span: Span,
     above: usize,
     r: usize,
@@ -165,15 +150,13 @@ pub fn count(
 ) -> Result<Listed, Refusal>
     requires span_fits { SpanFits span }
     requires above_lt_longest_path { above < longest_path }
-    ensures { result ≡ count_from 0 (listing u v room (items (mem nodes.now slots.now used.now) rules
-        (events_of span (mem nodes.now slots.now used.now) above r))) }
+    ensures { result ≡ count_from 0 (listing u v room (items (memory_of pools.entry) rules
+        (events_of span (memory_of pools.entry) above r))) }
 {
     let mut records = [0usize; Path::LONGEST];
     let mut places = [0usize; Path::LONGEST];
     let mut next = first_listed(
-        nodes,
-        slots,
-        used,
+        pools,
         span,
         above,
         r,
@@ -192,18 +175,7 @@ pub fn count(
                     return Ok(Listed::first(n));
                 }
                 n += 1;
-                next = next_listed(
-                    nodes,
-                    slots,
-                    used,
-                    span,
-                    above,
-                    u,
-                    v,
-                    next,
-                    &mut records,
-                    &mut places,
-                );
+                next = next_listed(pools, span, above, u, v, next, &mut records, &mut places);
             }
             Item::Broken => {
                 return Err(Refusal::Damage);
@@ -217,9 +189,7 @@ pub fn count(
 
 // The second reading: so many elements into the output, from place `at` on; the place after the last.
 pub fn write(
-    nodes: &[u64],
-    slots: &[u64],
-    used: &[u64],
+    pools: Pools,
     span: Span,
     above: usize,
     r: usize,
@@ -234,24 +204,22 @@ pub fn write(
     requires span_fits { SpanFits span }
     requires above_lt_longest_path { above < longest_path }
     requires count_bound { at + count < 2 ^ 63 }
-    requires r_in_bounds { at + length (listing u v count (items (mem nodes.now slots.now used.now) rules (events_of span (mem nodes.now slots.now used.now) above r))).keys ≤ length keys.old }
+    requires r_in_bounds { at + length (listing u v count (items (memory_of pools) rules (events_of span (memory_of pools) above r))).keys ≤ length keys.old }
     requires payloads_len { length payloads.old ≡ length keys.old }
-    ensures value { result ≡ at + length (listing u v count (items (mem nodes.now slots.now used.now) rules
-        (events_of span (mem nodes.now slots.now used.now) above r))).keys }
+    ensures value { result ≡ at + length (listing u v count (items (memory_of pools.entry) rules
+        (events_of span (memory_of pools.entry) above r))).keys }
     ensures keys_after { keys.new
-        ≡ sets keys.old at (listing u v count (items (mem nodes.now slots.now used.now) rules
-        (events_of span (mem nodes.now slots.now used.now) above r))).keys }
+        ≡ sets keys.old at (listing u v count (items (memory_of pools.entry) rules
+        (events_of span (memory_of pools.entry) above r))).keys }
     ensures payloads_after { payloads.new
-        ≡ sets payloads.old at (map (λ (q : ℕ). get_or slots.now (payload_word q) 0)
-        (listing u v count (items (mem nodes.now slots.now used.now) rules
-        (events_of span (mem nodes.now slots.now used.now) above r))).places) }
+        ≡ sets payloads.old at (map (λ (q : ℕ). get_or pools.entry.slots.now (payload_word q) 0)
+        (listing u v count (items (memory_of pools.entry) rules
+        (events_of span (memory_of pools.entry) above r))).places) }
 {
     let mut records = [0usize; Path::LONGEST];
     let mut places = [0usize; Path::LONGEST];
     let mut next = first_listed(
-        nodes,
-        slots,
-        used,
+        pools,
         span,
         above,
         r,
@@ -261,6 +229,7 @@ pub fn write(
         &mut records,
         &mut places,
     );
+    let slots = pools.slots;
     let end = at + count;
     let mut n = at;
     while n < end {
@@ -270,18 +239,7 @@ pub fn write(
                 keys[n] = k;
                 payloads[n] = slots[q * Node::SLOT_WORDS + 1];
                 n += 1;
-                next = next_listed(
-                    nodes,
-                    slots,
-                    used,
-                    span,
-                    above,
-                    u,
-                    v,
-                    next,
-                    &mut records,
-                    &mut places,
-                );
+                next = next_listed(pools, span, above, u, v, next, &mut records, &mut places);
             }
             Item::Broken => {
                 return n;

@@ -14,16 +14,14 @@ pub fn band(
     h: Handle,
     u: u64,
     v: u64,
-    nodes: &[u64],
-    slots: &[u64],
-    used: &[u64],
+    pools: Pools,
     keys: &mut [u64],
     payloads: &mut [u64],
 ) -> Result<Listed, Refusal>
     ensures { band (listed result) keys.new payloads.new
-        ≡ band_of h u v (mem nodes.now slots.now used.now) keys.old payloads.old }
+        ≡ band_of h u v (memory_of pools.entry) keys.old payloads.old }
 {
-    if !h.fits(nodes, slots, used) {
+    if !h.fits(pools) {
         return Err(Refusal::WrongSizes);
     }
     if keys.len() != payloads.len() {
@@ -46,11 +44,9 @@ pub fn band(
         rebuild: false,
         fresh: 0,
     };
-    let listed = listing::count(nodes, slots, used, span, 0, h.root, rules, u, v, keys.len())?;
+    let listed = listing::count(pools, span, 0, h.root, rules, u, v, keys.len())?;
     let _end = listing::write(
-        nodes,
-        slots,
-        used,
+        pools,
         span,
         0,
         h.root,
