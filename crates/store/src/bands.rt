@@ -6,7 +6,7 @@ ghost use Rattle.store.specs.Bands.{band, band_of, listed};
 use crate::Handle;
 use laws::{Key, Refusal};
 use listing::Listed;
-use pool::Node;
+use pool::Pools;
 use walk::{Rules, Span};
 
 // The elements with u <= key <= v, in key order, as many as fit.
@@ -14,13 +14,16 @@ pub fn band(
     h: Handle,
     u: u64,
     v: u64,
-    pools: Pools,
+    nodes: &[u64],
+    slots: &[u64],
+    used: &[u64],
     keys: &mut [u64],
     payloads: &mut [u64],
 ) -> Result<Listed, Refusal>
     ensures { band (listed result) keys.new payloads.new
-        ≡ band_of h u v (memory_of pools.entry) keys.old payloads.old }
+        ≡ band_of h u v (mem nodes.now slots.now used.now) keys.old payloads.old }
 {
+    let pools = Pools { nodes, slots, used };
     if !h.fits(pools) {
         return Err(Refusal::WrongSizes);
     }
@@ -38,7 +41,7 @@ pub fn band(
     }
     let span = Span::Between(u, v);
     let rules = Rules {
-        nodes: nodes.len() / Node::RECORD_WORDS,
+        nodes: pools.records(),
         keys: 0,
         least: 0,
         rebuild: false,

@@ -3,6 +3,7 @@
 
 ghost use Rattle.std.specs.Prelude.{◌≡◌, ◌≤◌};
 ghost use Rattle.pool.specs.Memory.{mem};
+ghost use Rattle.pool.specs.Pools.{memory_of};
 ghost use Rattle.store.specs.Calls.{call, search_of, lookup_of, replace_of, looked, changed};
 ghost use Rattle.store.specs.Loading.{first_fault, refusal_for, emptied, load_fits, load_tree, load_of, loaded, Loadable, Roomy};
 ghost use Rattle.store.specs.Handles.{new_handle, with_root, with_count, handle_fits, limits_hold, pools_are, least_capacity, most_capacity, least_records, most_records, least_pool_slots, most_pool_slots};
@@ -10,7 +11,7 @@ ghost use Rattle.store.specs.Handles.{new_handle, with_root, with_count, handle_
 use build::Hint;
 use laws::{Key, Refusal};
 use model::Model;
-use pool::Node;
+use pool::{Node, Pools};
 use walk::{End, Path};
 
 pub mod bands;
@@ -76,13 +77,13 @@ impl Handle {
     }
 
     // Are the sizes within the limits, the lent lists just those of the sizes, and the count within the capacity?
-    pub fn fits(self, nodes: &[u64], slots: &[u64], used: &[u64]) -> bool
-        ensures { result ≡ handle_fits self (mem nodes.now slots.now used.now) }
+    pub fn fits(self, pools: Pools) -> bool
+        ensures { result ≡ handle_fits self (memory_of pools.entry) }
     {
         if !limits_hold(self.capacity, self.records, self.slots) {
             return false;
         }
-        if !pools_are(self.records, self.slots, nodes, slots, used) {
+        if !pools_are(self.records, self.slots, pools) {
             return false;
         }
         self.count <= self.capacity
@@ -160,42 +161,30 @@ fn limits_hold(capacity: usize, records: usize, slots: usize) -> bool
     true
 }
 
-fn pools_are(
-    records: usize,
-    slots: usize,
-    node_words: &[u64],
-    slot_words: &[u64],
-    used: &[u64],
-) -> bool
+fn pools_are(records: usize, slots: usize, pools: Pools) -> bool
     requires { (records ≤ most_records) × (slots ≤ most_pool_slots) }
-    ensures { result ≡ pools_are records slots (mem node_words.now slot_words.now used.now) }
+    ensures { result ≡ pools_are records slots (memory_of pools.entry) }
 {
-    if node_words.len() != records * Node::RECORD_WORDS {
+    if pools.nodes.len() != records * Node::RECORD_WORDS {
         return false;
     }
-    if slot_words.len() != slots * Node::SLOT_WORDS {
+    if pools.slots.len() != slots * Node::SLOT_WORDS {
         return false;
     }
-    used.len() == (records + slots + 63) / 64
+    pools.used.len() == (records + slots + 63) / 64
 }
 
 // What lookup, replace and delete begin with.
-pub fn find(
-    h: Handle,
-    key: u64,
-    nodes: &[u64],
-    slots: &[u64],
-    used: &[u64],
-) -> Result<Held, Refusal>
-    ensures { result ≡ search_of h key (mem nodes.now slots.now used.now) }
+pub fn find(h: Handle, key: u64, pools: Pools) -> Result<Held, Refusal>
+    ensures { result ≡ search_of h key (memory_of pools.entry) }
 {
-    if !h.fits(nodes, slots, used) {
+    if !h.fits(pools) {
         return Err(Refusal::WrongSizes);
     }
     if Key::BOUND <= key {
         return Err(Refusal::OutOfRange);
     }
-    let f = walk::follow(nodes, slots, used, h.root, key);
+    let f = walk::follow(pools, h.root, key);
     let visits = f.visits;
     let end = f.end;
     match end {
@@ -220,7 +209,7 @@ pub fn lookup(
 ) -> Result<Looked, Refusal>
     ensures { looked result ≡ lookup_of h key (mem nodes.now slots.now used.now) }
 {
-    let held = find(h, key, nodes, slots, used)?;
+    let held = find(h, key, Pools { nodes, slots, used })?;
     Ok(Looked {
         payload: slots[held.slot * Node::SLOT_WORDS + 1],
         visits: held.visits,
@@ -239,7 +228,7 @@ pub fn replace(
     ensures { call (changed result.answer) result.handle (mem nodes.now slots.new used.now)
         ≡ replace_of h key payload (mem nodes.now slots.old used.now) }
 {
-    match find(h, key, nodes, slots, used) {
+    match find(h, key, Pools { nodes, slots, used }) {
         Ok(held) => {
             slots[held.slot * Node::SLOT_WORDS + 1] = payload;
             Changing::new(Ok(()), h)
@@ -266,22 +255,15 @@ fn first_fault(keys: &[u64]) -> Option<Fault>
 }
 
 // Are the capacity and the lent lists of a load of the right sizes?
-fn load_fits(
-    capacity: usize,
-    keys: &[u64],
-    payloads: &[u64],
-    nodes: &[u64],
-    slots: &[u64],
-    used: &[u64],
-) -> bool
-    ensures { result ≡ load_fits capacity keys.now payloads.now (mem nodes.now slots.now used.now) }
+fn load_fits(capacity: usize, keys: &[u64], payloads: &[u64], pools: Pools) -> bool
+    ensures { result ≡ load_fits capacity keys.now payloads.now (memory_of pools.entry) }
 {
-    let records = nodes.len() / Node::RECORD_WORDS;
-    let count = slots.len() / Node::SLOT_WORDS;
+    let records = pools.nodes.len() / Node::RECORD_WORDS;
+    let count = pools.slots.len() / Node::SLOT_WORDS;
     if !limits_hold(capacity, records, count) {
         return false;
     }
-    if !pools_are(records, count, nodes, slots, used) {
+    if !pools_are(records, count, pools) {
         return false;
     }
     keys.len() == payloads.len()
@@ -359,7 +341,7 @@ pub fn load(
     ensures { loaded result (mem nodes.new slots.new used.new)
         ≡ load_of capacity keys.now payloads.now (mem nodes.old slots.old used.old) }
 {
-    if !load_fits(capacity, keys, payloads, nodes, slots, used) {
+    if !load_fits(capacity, keys, payloads, Pools { nodes, slots, used }) {
         return Err(Refusal::WrongSizes);
     }
     if capacity < keys.len() {
