@@ -7,7 +7,6 @@ ghost use Rattle.pool.specs.Memory.{mem};
 ghost use Rattle.store.specs.Calls.{call, changed};
 
 use laws::Refusal;
-use pool::Pools;
 use store::{Changing, Handle};
 
 // A key that is held is gone: its slot becomes NULL and the count falls; counters and nodes stay.
@@ -15,7 +14,7 @@ pub fn delete(h: Handle, key: u64, nodes: &[u64], slots: &mut [u64], used: &[u64
     ensures { call (changed result.answer) result.handle (mem nodes.now slots.new used.now)
         ≡ delete_of h key (mem nodes.now slots.old used.now) }
 {
-    match store::find(h, key, Pools { nodes, slots, used }) {
+    match store::find(h, key, nodes, slots, used) {
         Ok(held) => {
             if h.count < 1 {
                 return Changing::new(Err(Refusal::Damage), h);
