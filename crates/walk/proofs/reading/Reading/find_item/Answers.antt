@@ -1,4 +1,4 @@
--- `walk::reading::find_item` meets its contract. The loop's invariant: the items of what is left from here are those of what was left
+-- `walk::reading::Reading::find_item` meets its contract. The loop's invariant: the items of what is left from here are those of what was left
 -- where it began (proofs/Siftings). The measure is how many nodes may still be entered. Assumes nothing.
 use mathlib.Core.List.{[]}
 use mathlib.Core.Path.{◌≡◌, refl, sym, ap, ◌∙◌}
@@ -7,7 +7,7 @@ use native.Mathlib.Omega.{arith}
 use Rattle.walk.specs.declared.Event.TheVariants.{End}
 use Rattle.walk.specs.declared.Rules.{Rules}
 use Rattle.walk.proofs.Siftings.{enters, enters_some, enter_stands, enter_fits, element_key, finds_from, finds_unentered, finds_unheld, finds_held, finds_damage, finds_end}
-use Rattle.walk.proofs.reading.find_item.Goals as goal
+use Rattle.walk.proofs.reading.Reading.find_item.Goals as goal
 
 pub loop-n-init : goal.loop-n-init
 loop-n-init c = (c.requires.stands, ((refl, refl), refl))
