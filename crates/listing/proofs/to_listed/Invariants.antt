@@ -9,8 +9,8 @@ use Rattle.listing.proofs.to_listed.Given as goal
 
 abbrev pub invariant-loop-k : goal.invariant-loop-k
 invariant-loop-k l =
-    Reached l.span (memory_of l.pools) l.above l.u l.v (left l.span (memory_of l.pools) l.above l.initial.next l.initial.records l.initial.places) l.next l.records l.places
+    Reached l.reading.span (memory_of l.reading.pools) l.reading.above l.u l.v (left l.reading.span (memory_of l.reading.pools) l.reading.above l.initial.next l.initial.records l.initial.places) l.next l.records l.places
     × ((length l.records ≡ length l.initial.records) × (length l.places ≡ length l.initial.places))
 
 abbrev pub decreases-loop-k : goal.decreases-loop-k
-decreases-loop-k l = length (left l.span (memory_of l.pools) l.above l.next l.records l.places)
+decreases-loop-k l = length (left l.reading.span (memory_of l.reading.pools) l.reading.above l.next l.records l.places)
