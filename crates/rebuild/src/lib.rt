@@ -16,6 +16,7 @@ ghost use Rattle.walk.specs.Walks.{longest_path};
 use build::Hint;
 use laws::Key;
 use pool::{Node, Pools};
+use walk::reading::Reading;
 use walk::{Path, Rules, Span};
 
 // The rules of a rebuild's reading: the new key counts among those of the capacity, and is not met.
@@ -38,16 +39,12 @@ pub fn is_sound(capacity: usize, key: u64, above: usize, top: usize, pools: Pool
     ensures { result ≡ sound_below capacity key above top (memory_of pools.entry) }
 {
     let rules = rules_of(pools, capacity, key);
-    let counted = listing::count(
+    let reading = Reading {
         pools,
-        Span::Whole,
+        span: Span::Whole,
         above,
-        top,
-        rules,
-        0,
-        Key::BOUND - 1,
-        capacity,
-    );
+    };
+    let counted = listing::count(reading, top, rules, 0, Key::BOUND - 1, capacity);
     counted.is_ok()
 }
 
@@ -67,25 +64,16 @@ fn gather(
         keys.old payloads.old keys.new payloads.new result }
 {
     let rules = rules_of(pools, capacity, key);
-    let lower = listing::write(
+    let reading = Reading {
         pools,
-        Span::Whole,
+        span: Span::Whole,
         above,
-        top,
-        rules,
-        0,
-        key,
-        capacity,
-        keys,
-        payloads,
-        0,
-    );
+    };
+    let lower = listing::write(reading, top, rules, 0, key, capacity, keys, payloads, 0);
     keys[lower] = key;
     payloads[lower] = payload;
     listing::write(
-        pools,
-        Span::Whole,
-        above,
+        reading,
         top,
         rules,
         key,

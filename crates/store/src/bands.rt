@@ -7,6 +7,7 @@ use crate::Handle;
 use laws::{Key, Refusal};
 use listing::Listed;
 use pool::Pools;
+use walk::reading::Reading;
 use walk::{Rules, Span};
 
 // The elements with u <= key <= v, in key order, as many as fit.
@@ -39,7 +40,11 @@ pub fn band(
     if v < u {
         return Err(Refusal::Reversed);
     }
-    let span = Span::Between(u, v);
+    let reading = Reading {
+        pools,
+        span: Span::Between(u, v),
+        above: 0,
+    };
     let rules = Rules {
         nodes: pools.records(),
         keys: 0,
@@ -47,11 +52,9 @@ pub fn band(
         rebuild: false,
         fresh: 0,
     };
-    let listed = listing::count(pools, span, 0, h.root, rules, u, v, keys.len())?;
+    let listed = listing::count(reading, h.root, rules, u, v, keys.len())?;
     let _end = listing::write(
-        pools,
-        span,
-        0,
+        reading,
         h.root,
         rules,
         u,
