@@ -5,7 +5,7 @@ ghost use Rattle.pool.specs.Memory.{mem, records_in, slots_in};
 ghost use Rattle.build.specs.Hints.{Sized};
 ghost use Rattle.build.specs.Releasing.{drop_node, release};
 
-use pool::{Node, Slot};
+use pool::{Node, Pools, Slot};
 
 // The node n of record r goes: zeros for its run and its record, and their marks taken away.
 fn drop_node(nodes: &mut [u64], slots: &mut [u64], used: &mut [u64], r: usize, n: Node)
@@ -31,13 +31,15 @@ pub fn release(nodes: &mut [u64], slots: &mut [u64], used: &mut [u64], r: usize,
     if fuel < 1 {
         return;
     }
-    let Ok(n) = pool::node_at(nodes, slots, used, r) else {
+    let pools = Pools { nodes, slots, used };
+    let Ok(n) = pools.node_at(r) else {
         return;
     };
     let m = n.model;
     let l = m.l as usize;
     for j in 0..l {
-        let Ok(slot) = pool::slot_at(slots, n, j) else {
+        let pools = Pools { nodes, slots, used };
+        let Ok(slot) = pools.slot_at(n, j) else {
             continue;
         };
         let Slot::Child(child) = slot else {

@@ -8,11 +8,12 @@ ghost use Rattle.insert.specs.Entries.{fresh_of};
 ghost use Rattle.insert.specs.Steps.{Ready, Sized, GoodPath, Ends, Stores};
 ghost use Rattle.laws.specs.Keys.{key_bound};
 ghost use Rattle.pool.specs.Memory.{mem, slots_in};
+ghost use Rattle.pool.specs.Pools.{memory_of};
 ghost use Rattle.rebuild.specs.Judging.{Pooled};
 ghost use Rattle.rebuild.specs.Rebuilding.{Scratch, scratch};
 
 use laws::{Key, Refusal};
-use pool::Node;
+use pool::{Node, Pools};
 use store::{Changing, Handle};
 use walk::{End, Path};
 
@@ -66,38 +67,30 @@ fn scratch_fits(capacity: usize, keys: &[u64], payloads: &[u64], places: &[u64])
 }
 
 // Is no rule broken in the subtree to be rebuilt, at place `at` of the path, if there is one?
-fn sound_due(
-    capacity: usize,
-    key: u64,
-    path: Path,
-    at: usize,
-    nodes: &[u64],
-    slots: &[u64],
-    used: &[u64],
-) -> bool
+fn sound_due(capacity: usize, key: u64, path: Path, at: usize, pools: Pools) -> bool
     requires le_capacity { 1 ≤ capacity }
     requires sized { Sized path }
-    ensures { result ≡ sound_due capacity key (take path.len path.nodes) at (mem nodes.now slots.now used.now) }
+    ensures { result ≡ sound_due capacity key (take path.len path.nodes) at (memory_of pools.entry) }
 {
     if path.len <= at {
         return true;
     }
     let top = path.nodes[at];
-    rebuild::is_sound(capacity, key, at, top, nodes, slots, used)
+    rebuild::is_sound(capacity, key, at, top, pools)
 }
 
 // The slot that leads to the node at place `at` of the path; the root has none.
-fn slot_above(key: u64, path: Path, at: usize, nodes: &[u64], slots: &[u64], used: &[u64]) -> usize
+fn slot_above(key: u64, path: Path, at: usize, pools: Pools) -> usize
     requires key_lt_key_bound { key < key_bound }
     requires sized { Sized path × (at ≤ path.len) }
-    requires good_path { GoodPath (mem nodes.now slots.now used.now) path }
-    ensures { result ≡ slot_above nodes.now (take path.len path.nodes) key at }
+    requires good_path { GoodPath (memory_of pools) path }
+    ensures { result ≡ slot_above pools.entry.nodes.now (take path.len path.nodes) key at }
 {
     if at < 1 {
         return 0;
     }
     let r = path.nodes[at - 1];
-    let Ok(n) = pool::node_at(nodes, slots, used, r) else {
+    let Ok(n) = pools.node_at(r) else {
         return 0;
     };
     let m = n.model;
@@ -259,10 +252,11 @@ fn settle(
 {
     let key = entry.key;
     let at = counters::due_at(nodes, entry.path, entry.other.is_some());
-    if !sound_due(h.capacity, key, entry.path, at, nodes, slots, used) {
+    let pools = Pools { nodes, slots, used };
+    if !sound_due(h.capacity, key, entry.path, at, pools) {
         return Changing::new(Err(Refusal::Damage), h);
     }
-    let above = slot_above(key, entry.path, at, nodes, slots, used);
+    let above = slot_above(key, entry.path, at, pools);
     let held = slots[entry.slot * Node::SLOT_WORDS + 1];
     let Some(c) = rebuild::pairs::build_pair(
         key,
@@ -298,7 +292,7 @@ fn rebuild_whole(
         ≡ whole_of h key payload (mem nodes.old slots.old used.old)
         (scratch keys.old payloads.old places.old) }
 {
-    if !rebuild::is_sound(h.capacity, key, 0, h.root, nodes, slots, used) {
+    if !rebuild::is_sound(h.capacity, key, 0, h.root, Pools { nodes, slots, used }) {
         return Changing::new(Err(Refusal::Damage), h);
     }
     match rebuild::rebuild(
@@ -326,7 +320,8 @@ pub fn insert(
         ≡ insert_of h key payload (mem nodes.old slots.old used.old)
         (scratch keys.old payloads.old places.old) }
 {
-    if !h.fits(nodes, slots, used) {
+    let pools = Pools { nodes, slots, used };
+    if !h.fits(pools) {
         return Changing::new(Err(Refusal::WrongSizes), h);
     }
     if !scratch_fits(h.capacity, keys, payloads, places) {
@@ -335,7 +330,7 @@ pub fn insert(
     if Key::BOUND <= key {
         return Changing::new(Err(Refusal::OutOfRange), h);
     }
-    let t = walk::trace(nodes, slots, used, h.root, key);
+    let t = walk::trace(pools, h.root, key);
     let path = t.path;
     let end = t.end;
     match end {

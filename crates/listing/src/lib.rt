@@ -5,7 +5,8 @@
 ghost use Rattle.std.specs.Prelude.{true, false, ◌&&◌, map, ◌≡◌, ℕ, ◌+◌, ◌^◌, ◌<◌, ◌≤◌, leb, length, get_or};
 ghost use Rattle.std.proofs.lemmas.List.Edits.{sets};
 ghost use Rattle.listing.specs.Listing.{listing, left, Lands, count_from};
-ghost use Rattle.pool.specs.Memory.{mem, payload_word};
+ghost use Rattle.pool.specs.Memory.{payload_word};
+ghost use Rattle.pool.specs.Pools.{memory_of};
 ghost use Rattle.walk.specs.Cursors.{remains};
 ghost use Rattle.walk.specs.Events.{events_of};
 ghost use Rattle.walk.specs.Items.{items};
@@ -14,7 +15,8 @@ ghost use Rattle.walk.specs.Walks.{longest_path};
 
 use laws::Refusal;
 use pool::Node;
-use walk::{Item, Next, Path, Rules, Span};
+use walk::reading::Reading;
+use walk::{Item, Next, Path, Rules};
 
 // How many elements are listed, and whether more remain.
 #[derive(Clone, Copy, Debug, PartialEq, Eq)]
@@ -47,22 +49,18 @@ fn inside(u: u64, v: u64, k: u64) -> bool
 
 // From an item on to the next between u and v.
 fn to_listed(
-    nodes: &[u64],
-    slots: &[u64],
-    used: &[u64],
-    span: Span,
-    above: usize,
+    reading: Reading,
     u: u64,
     v: u64,
     from: Next,
     records: &mut [usize],
     places: &mut [usize],
 ) -> Next
-    requires span_fits { SpanFits span }
-    requires holds { Holds span (mem nodes.now slots.now used.now) above from.item from.cursor }
+    requires span_fits { SpanFits reading.span }
+    requires holds { Holds reading.span (memory_of reading.pools) reading.above from.item from.cursor }
     requires longest_path_in_bounds { (longest_path ≤ length records.old) × (longest_path ≤ length places.old) }
-    ensures { Lands span (mem nodes.now slots.now used.now) above u v
-        (left span (mem nodes.now slots.now used.now) above from records.old places.old)
+    ensures { Lands reading.entry.span (memory_of reading.entry.pools) reading.entry.above u v
+        (left reading.entry.span (memory_of reading.entry.pools) reading.entry.above from records.old places.old)
         result records.new places.new }
 {
     let mut next = from;
@@ -75,9 +73,7 @@ fn to_listed(
                 }
                 let cursor = next.cursor;
                 let rules = next.rules;
-                next = walk::reading::next_item(
-                    nodes, slots, used, span, above, cursor, rules, records, places,
-                );
+                next = reading.next_item(cursor, rules, records, places);
             }
             Item::Broken => {
                 return next;
@@ -91,11 +87,7 @@ fn to_listed(
 
 // The first element between u and v of the tree below record r, whose path has `above` nodes before it; and the next after an element.
 fn first_listed(
-    nodes: &[u64],
-    slots: &[u64],
-    used: &[u64],
-    span: Span,
-    above: usize,
+    reading: Reading,
     r: usize,
     rules: Rules,
     u: u64,
@@ -103,83 +95,57 @@ fn first_listed(
     records: &mut [usize],
     places: &mut [usize],
 ) -> Next
-    requires span_fits { SpanFits span }
-    requires above_lt_longest_path { above < longest_path }
+    requires span_fits { SpanFits reading.span }
+    requires above_lt_longest_path { reading.above < longest_path }
     requires longest_path_in_bounds { (longest_path ≤ length records.old) × (longest_path ≤ length places.old) }
-    ensures { Lands span (mem nodes.now slots.now used.now) above u v
-        (items (mem nodes.now slots.now used.now) rules
-        (events_of span (mem nodes.now slots.now used.now) above r))
+    ensures { Lands reading.entry.span (memory_of reading.entry.pools) reading.entry.above u v
+        (items (memory_of reading.entry.pools) rules
+        (events_of reading.entry.span (memory_of reading.entry.pools) reading.entry.above r))
         result records.new places.new }
 {
-    let first = walk::reading::first_item(
-        nodes, slots, used, span, above, r, rules, records, places,
-    );
-    to_listed(
-        nodes, slots, used, span, above, u, v, first, records, places,
-    )
+    let first = reading.first_item(r, rules, records, places);
+    to_listed(reading, u, v, first, records, places)
 }
 
 fn next_listed(
-    nodes: &[u64],
-    slots: &[u64],
-    used: &[u64],
-    span: Span,
-    above: usize,
+    reading: Reading,
     u: u64,
     v: u64,
     from: Next,
     records: &mut [usize],
     places: &mut [usize],
 ) -> Next
-    requires span_fits { SpanFits span }
-    requires standing { Standing span (mem nodes.now slots.now used.now) above from.cursor }
+    requires span_fits { SpanFits reading.span }
+    requires standing { Standing reading.span (memory_of reading.pools) reading.above from.cursor }
     requires longest_path_in_bounds { (longest_path ≤ length records.old) × (longest_path ≤ length places.old) }
-    ensures { Lands span (mem nodes.now slots.now used.now) above u v
-        (items (mem nodes.now slots.now used.now) from.rules
-        (remains span (mem nodes.now slots.now used.now) (below above from.cursor) from.cursor
+    ensures { Lands reading.entry.span (memory_of reading.entry.pools) reading.entry.above u v
+        (items (memory_of reading.entry.pools) from.rules
+        (remains reading.entry.span (memory_of reading.entry.pools) (below reading.entry.above from.cursor) from.cursor
         records.old places.old)) result records.new places.new }
 {
     let cursor = from.cursor;
     let rules = from.rules;
-    let next = walk::reading::next_item(
-        nodes, slots, used, span, above, cursor, rules, records, places,
-    );
-    to_listed(nodes, slots, used, span, above, u, v, next, records, places)
+    let next = reading.next_item(cursor, rules, records, places);
+    to_listed(reading, u, v, next, records, places)
 }
 
 // The first reading, which writes nothing: up to the first element beyond the room.
 pub fn count(
-    nodes: &[u64],
-    slots: &[u64],
-    used: &[u64],
-    span: Span,
-    above: usize,
+    reading: Reading,
     r: usize,
     rules: Rules,
     u: u64,
     v: u64,
     room: usize,
 ) -> Result<Listed, Refusal>
-    requires span_fits { SpanFits span }
-    requires above_lt_longest_path { above < longest_path }
-    ensures { result ≡ count_from 0 (listing u v room (items (mem nodes.now slots.now used.now) rules
-        (events_of span (mem nodes.now slots.now used.now) above r))) }
+    requires span_fits { SpanFits reading.span }
+    requires above_lt_longest_path { reading.above < longest_path }
+    ensures { result ≡ count_from 0 (listing u v room (items (memory_of reading.entry.pools) rules
+        (events_of reading.entry.span (memory_of reading.entry.pools) reading.entry.above r))) }
 {
     let mut records = [0usize; Path::LONGEST];
     let mut places = [0usize; Path::LONGEST];
-    let mut next = first_listed(
-        nodes,
-        slots,
-        used,
-        span,
-        above,
-        r,
-        rules,
-        u,
-        v,
-        &mut records,
-        &mut places,
-    );
+    let mut next = first_listed(reading, r, rules, u, v, &mut records, &mut places);
     let mut n = 0;
     loop {
         let item = next.item;
@@ -189,18 +155,7 @@ pub fn count(
                     return Ok(Listed::first(n));
                 }
                 n += 1;
-                next = next_listed(
-                    nodes,
-                    slots,
-                    used,
-                    span,
-                    above,
-                    u,
-                    v,
-                    next,
-                    &mut records,
-                    &mut places,
-                );
+                next = next_listed(reading, u, v, next, &mut records, &mut places);
             }
             Item::Broken => {
                 return Err(Refusal::Damage);
@@ -214,11 +169,7 @@ pub fn count(
 
 // The second reading: so many elements into the output, from place `at` on; the place after the last.
 pub fn write(
-    nodes: &[u64],
-    slots: &[u64],
-    used: &[u64],
-    span: Span,
-    above: usize,
+    reading: Reading,
     r: usize,
     rules: Rules,
     u: u64,
@@ -228,36 +179,25 @@ pub fn write(
     payloads: &mut [u64],
     at: usize,
 ) -> usize
-    requires span_fits { SpanFits span }
-    requires above_lt_longest_path { above < longest_path }
+    requires span_fits { SpanFits reading.span }
+    requires above_lt_longest_path { reading.above < longest_path }
     requires count_bound { at + count < 2 ^ 63 }
-    requires r_in_bounds { at + length (listing u v count (items (mem nodes.now slots.now used.now) rules (events_of span (mem nodes.now slots.now used.now) above r))).keys ≤ length keys.old }
+    requires r_in_bounds { at + length (listing u v count (items (memory_of reading.pools) rules (events_of reading.span (memory_of reading.pools) reading.above r))).keys ≤ length keys.old }
     requires payloads_len { length payloads.old ≡ length keys.old }
-    ensures value { result ≡ at + length (listing u v count (items (mem nodes.now slots.now used.now) rules
-        (events_of span (mem nodes.now slots.now used.now) above r))).keys }
+    ensures value { result ≡ at + length (listing u v count (items (memory_of reading.entry.pools) rules
+        (events_of reading.entry.span (memory_of reading.entry.pools) reading.entry.above r))).keys }
     ensures keys_after { keys.new
-        ≡ sets keys.old at (listing u v count (items (mem nodes.now slots.now used.now) rules
-        (events_of span (mem nodes.now slots.now used.now) above r))).keys }
+        ≡ sets keys.old at (listing u v count (items (memory_of reading.entry.pools) rules
+        (events_of reading.entry.span (memory_of reading.entry.pools) reading.entry.above r))).keys }
     ensures payloads_after { payloads.new
-        ≡ sets payloads.old at (map (λ (q : ℕ). get_or slots.now (payload_word q) 0)
-        (listing u v count (items (mem nodes.now slots.now used.now) rules
-        (events_of span (mem nodes.now slots.now used.now) above r))).places) }
+        ≡ sets payloads.old at (map (λ (q : ℕ). get_or reading.entry.pools.slots.now (payload_word q) 0)
+        (listing u v count (items (memory_of reading.entry.pools) rules
+        (events_of reading.entry.span (memory_of reading.entry.pools) reading.entry.above r))).places) }
 {
     let mut records = [0usize; Path::LONGEST];
     let mut places = [0usize; Path::LONGEST];
-    let mut next = first_listed(
-        nodes,
-        slots,
-        used,
-        span,
-        above,
-        r,
-        rules,
-        u,
-        v,
-        &mut records,
-        &mut places,
-    );
+    let mut next = first_listed(reading, r, rules, u, v, &mut records, &mut places);
+    let slots = reading.pools.slots;
     let end = at + count;
     let mut n = at;
     while n < end {
@@ -267,18 +207,7 @@ pub fn write(
                 keys[n] = k;
                 payloads[n] = slots[q * Node::SLOT_WORDS + 1];
                 n += 1;
-                next = next_listed(
-                    nodes,
-                    slots,
-                    used,
-                    span,
-                    above,
-                    u,
-                    v,
-                    next,
-                    &mut records,
-                    &mut places,
-                );
+                next = next_listed(reading, u, v, next, &mut records, &mut places);
             }
             Item::Broken => {
                 return n;

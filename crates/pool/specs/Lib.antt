@@ -1,3 +1,4 @@
 pub mod Memory
+pub mod Pools
 pub mod Reading
 pub mod Writing

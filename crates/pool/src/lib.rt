@@ -4,7 +4,7 @@
 ghost use Rattle.std.specs.Prelude.{◌≡◌, ◌+◌, ◌*◌, ◌^◌, ◌<◌, ◌≤◌, length, replicate};
 ghost use Rattle.laws.specs.Keys.{key_bound};
 ghost use Rattle.model.specs.Slots.{InRange};
-ghost use Rattle.pool.specs.Memory.{mem, kind_unit};
+ghost use Rattle.pool.specs.Memory.{records_in, kind_unit};
 ghost use Rattle.pool.specs.Reading.{node_at, slot_at};
 ghost use Rattle.pool.specs.Writing.{put_node, put_data, put_child, put_null, zero_record, zero_run};
 
@@ -54,62 +54,83 @@ impl Slot {
     pub const NODE: u64 = 2;
 }
 
-// The node of record r, or the first rule that it breaks, whatever the memory holds.
-pub fn node_at(nodes: &[u64], slots: &[u64], used: &[u64], r: usize) -> Result<Node, Rule>
-    ensures { result ≡ node_at (mem nodes.now slots.now used.now) r }
-{
-    if nodes.len() / Node::RECORD_WORDS <= r {
-        return Err(Rule::UnusedRecord);
-    }
-    if !marks::is_used(used, r) {
-        return Err(Rule::UnusedRecord);
-    }
-    let at = r * Node::RECORD_WORDS;
-    let lo = nodes[at];
-    let w = nodes[at + 1];
-    let l = nodes[at + 2];
-    let start = nodes[at + 3];
-    let count = (slots.len() / Node::SLOT_WORDS) as u64;
-    if count < l {
-        return Err(Rule::RunOutside);
-    }
-    if count - l < start {
-        return Err(Rule::RunOutside);
-    }
-    let model = Model { lo, w, l };
-    if !model.is_in_range() {
-        return Err(Rule::ModelOutOfRange);
-    }
-    Ok(Node {
-        model,
-        start: start as usize,
-    })
+// The pools lent for reading: the words of the records, of the slots and of the map.
+#[derive(Clone, Copy)]
+pub struct Pools<'a> {
+    pub nodes: &'a [u64],
+    pub slots: &'a [u64],
+    pub used: &'a [u64],
 }
 
-// What slot j of a node holds, or the first rule that it breaks.
-pub fn slot_at(slots: &[u64], n: Node, j: usize) -> Result<Slot, Rule>
-    requires j_in_bounds { (n.start + j) * 2 < length slots.now }
-    requires in_range { InRange n.model }
-    ensures { result ≡ slot_at slots.now n j }
-{
-    let at = n.start + j;
-    let word = slots[at * Node::SLOT_WORDS];
-    let kind = word / Slot::UNIT;
-    let value = word % Slot::UNIT;
-    if kind == Slot::NULL {
-        return Ok(Slot::Null);
+impl<'a> Pools<'a> {
+    ghost use Rattle.pool.specs.Pools.{memory_of};
+
+    // How many records the pools have.
+    pub fn records(self) -> usize
+        ensures { result ≡ records_in self.entry.nodes.now }
+    {
+        self.nodes.len() / Node::RECORD_WORDS
     }
-    if kind == Slot::DATA {
-        let m = n.model;
-        if model::slot_of(m, value) == j as u64 {
-            return Ok(Slot::Data(value));
+
+    // The node of record r, or the first rule that it breaks, whatever the memory holds.
+    pub fn node_at(self, r: usize) -> Result<Node, Rule>
+        ensures { result ≡ node_at (memory_of self.entry) r }
+    {
+        let nodes = self.nodes;
+        if nodes.len() / Node::RECORD_WORDS <= r {
+            return Err(Rule::UnusedRecord);
         }
-        return Err(Rule::MisplacedKey);
+        if !marks::is_used(self.used, r) {
+            return Err(Rule::UnusedRecord);
+        }
+        let at = r * Node::RECORD_WORDS;
+        let lo = nodes[at];
+        let w = nodes[at + 1];
+        let l = nodes[at + 2];
+        let start = nodes[at + 3];
+        let count = (self.slots.len() / Node::SLOT_WORDS) as u64;
+        if count < l {
+            return Err(Rule::RunOutside);
+        }
+        if count - l < start {
+            return Err(Rule::RunOutside);
+        }
+        let model = Model { lo, w, l };
+        if !model.is_in_range() {
+            return Err(Rule::ModelOutOfRange);
+        }
+        Ok(Node {
+            model,
+            start: start as usize,
+        })
     }
-    if kind == Slot::NODE {
-        return Ok(Slot::Child(value as usize));
+
+    // What slot j of a node holds, or the first rule that it breaks.
+    pub fn slot_at(self, n: Node, j: usize) -> Result<Slot, Rule>
+        requires j_in_bounds { (n.start + j) * 2 < length self.slots.now }
+        requires in_range { InRange n.model }
+        ensures { result ≡ slot_at self.entry.slots.now n j }
+    {
+        let at = n.start + j;
+        let slots = self.slots;
+        let word = slots[at * Node::SLOT_WORDS];
+        let kind = word / Slot::UNIT;
+        let value = word % Slot::UNIT;
+        if kind == Slot::NULL {
+            return Ok(Slot::Null);
+        }
+        if kind == Slot::DATA {
+            let m = n.model;
+            if model::slot_of(m, value) == j as u64 {
+                return Ok(Slot::Data(value));
+            }
+            return Err(Rule::MisplacedKey);
+        }
+        if kind == Slot::NODE {
+            return Ok(Slot::Child(value as usize));
+        }
+        Err(Rule::UnknownKind)
     }
-    Err(Rule::UnknownKind)
 }
 
 // A new node's record: elements and built are the count of its keys, and there were no conflicts.

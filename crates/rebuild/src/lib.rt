@@ -7,6 +7,7 @@ pub mod pairs;
 ghost use Rattle.std.specs.Prelude.{◌≡◌, ◌<◌, ◌≤◌, length};
 ghost use Rattle.laws.specs.Keys.{key_bound};
 ghost use Rattle.pool.specs.Memory.{mem, records_in};
+ghost use Rattle.pool.specs.Pools.{memory_of};
 ghost use Rattle.rebuild.specs.Judging.{Judgeable, Sound, Judges, Gatherable, Gathers, Rebuildable};
 ghost use Rattle.rebuild.specs.Rebuilding.{rebuild_rules, sound_below, rebuild_of, rebuilt, scratch};
 ghost use Rattle.build.specs.Building.{out};
@@ -14,16 +15,17 @@ ghost use Rattle.walk.specs.Walks.{longest_path};
 
 use build::Hint;
 use laws::Key;
-use pool::Node;
+use pool::{Node, Pools};
+use walk::reading::Reading;
 use walk::{Path, Rules, Span};
 
 // The rules of a rebuild's reading: the new key counts among those of the capacity, and is not met.
-fn rules_of(nodes: &[u64], capacity: usize, key: u64) -> Rules
+fn rules_of(pools: Pools, capacity: usize, key: u64) -> Rules
     requires { 1 ≤ capacity }
-    ensures { result ≡ rebuild_rules (records_in nodes.now) capacity key }
+    ensures { result ≡ rebuild_rules (records_in pools.entry.nodes.now) capacity key }
 {
     Rules {
-        nodes: nodes.len() / Node::RECORD_WORDS,
+        nodes: pools.records(),
         keys: capacity - 1,
         least: 0,
         rebuild: true,
@@ -32,31 +34,17 @@ fn rules_of(nodes: &[u64], capacity: usize, key: u64) -> Rules
 }
 
 // Is no rule broken in the subtree at record `top`? Nothing is written.
-pub fn is_sound(
-    capacity: usize,
-    key: u64,
-    above: usize,
-    top: usize,
-    nodes: &[u64],
-    slots: &[u64],
-    used: &[u64],
-) -> bool
+pub fn is_sound(capacity: usize, key: u64, above: usize, top: usize, pools: Pools) -> bool
     requires { (1 ≤ capacity) × (above < longest_path) }
-    ensures { result ≡ sound_below capacity key above top (mem nodes.now slots.now used.now) }
+    ensures { result ≡ sound_below capacity key above top (memory_of pools.entry) }
 {
-    let rules = rules_of(nodes, capacity, key);
-    let counted = listing::count(
-        nodes,
-        slots,
-        used,
-        Span::Whole,
+    let rules = rules_of(pools, capacity, key);
+    let reading = Reading {
+        pools,
+        span: Span::Whole,
         above,
-        top,
-        rules,
-        0,
-        Key::BOUND - 1,
-        capacity,
-    );
+    };
+    let counted = listing::count(reading, top, rules, 0, Key::BOUND - 1, capacity);
     counted.is_ok()
 }
 
@@ -67,40 +55,25 @@ fn gather(
     payload: u64,
     above: usize,
     top: usize,
-    nodes: &[u64],
-    slots: &[u64],
-    used: &[u64],
+    pools: Pools,
     keys: &mut [u64],
     payloads: &mut [u64],
 ) -> usize
     requires { Gatherable capacity key above keys.old payloads.old }
-    ensures { Gathers capacity key payload above top (mem nodes.now slots.now used.now)
+    ensures { Gathers capacity key payload above top (memory_of pools.entry)
         keys.old payloads.old keys.new payloads.new result }
 {
-    let rules = rules_of(nodes, capacity, key);
-    let lower = listing::write(
-        nodes,
-        slots,
-        used,
-        Span::Whole,
+    let rules = rules_of(pools, capacity, key);
+    let reading = Reading {
+        pools,
+        span: Span::Whole,
         above,
-        top,
-        rules,
-        0,
-        key,
-        capacity,
-        keys,
-        payloads,
-        0,
-    );
+    };
+    let lower = listing::write(reading, top, rules, 0, key, capacity, keys, payloads, 0);
     keys[lower] = key;
     payloads[lower] = payload;
     listing::write(
-        nodes,
-        slots,
-        used,
-        Span::Whole,
-        above,
+        reading,
         top,
         rules,
         key,
@@ -165,9 +138,8 @@ pub fn rebuild(
         ≡ rebuild_of capacity key payload above top (mem nodes.old slots.old used.old)
         (scratch keys.old payloads.old places.old) }
 {
-    let n = gather(
-        capacity, key, payload, above, top, nodes, slots, used, keys, payloads,
-    );
+    let pools = Pools { nodes, slots, used };
+    let n = gather(capacity, key, payload, above, top, pools, keys, payloads);
     let built = build_in_place(
         &keys[0..n],
         &payloads[0..n],

@@ -6,7 +6,8 @@ ghost use Rattle.store.specs.Bands.{band, band_of, listed};
 use crate::Handle;
 use laws::{Key, Refusal};
 use listing::Listed;
-use pool::Node;
+use pool::Pools;
+use walk::reading::Reading;
 use walk::{Rules, Span};
 
 // The elements with u <= key <= v, in key order, as many as fit.
@@ -23,7 +24,8 @@ pub fn band(
     ensures { band (listed result) keys.new payloads.new
         ≡ band_of h u v (mem nodes.now slots.now used.now) keys.old payloads.old }
 {
-    if !h.fits(nodes, slots, used) {
+    let pools = Pools { nodes, slots, used };
+    if !h.fits(pools) {
         return Err(Refusal::WrongSizes);
     }
     if keys.len() != payloads.len() {
@@ -38,21 +40,21 @@ pub fn band(
     if v < u {
         return Err(Refusal::Reversed);
     }
-    let span = Span::Between(u, v);
+    let reading = Reading {
+        pools,
+        span: Span::Between(u, v),
+        above: 0,
+    };
     let rules = Rules {
-        nodes: nodes.len() / Node::RECORD_WORDS,
+        nodes: pools.records(),
         keys: 0,
         least: 0,
         rebuild: false,
         fresh: 0,
     };
-    let listed = listing::count(nodes, slots, used, span, 0, h.root, rules, u, v, keys.len())?;
+    let listed = listing::count(reading, h.root, rules, u, v, keys.len())?;
     let _end = listing::write(
-        nodes,
-        slots,
-        used,
-        span,
-        0,
+        reading,
         h.root,
         rules,
         u,

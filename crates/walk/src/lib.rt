@@ -4,10 +4,11 @@
 ghost use Rattle.std.specs.Prelude.{◌≡◌, ◌+◌, ◌<◌, ◌≤◌, []};
 ghost use Rattle.laws.specs.Keys.{key_bound};
 ghost use Rattle.model.specs.Slots.{InRange};
-ghost use Rattle.pool.specs.Memory.{mem, slots_in};
+ghost use Rattle.pool.specs.Memory.{slots_in};
+ghost use Rattle.pool.specs.Pools.{memory_of};
 ghost use Rattle.walk.specs.Walks.{longest_path, path_of, step_good, step_of, follow_of, trace_of};
 
-use pool::{Node, Rule, Slot};
+use pool::{Node, Pools, Rule, Slot};
 
 pub mod reading;
 
@@ -127,19 +128,20 @@ pub struct Next {
 }
 
 // What the key's slot in a good node says. The key sought, in its own slot, belongs there: no second division.
-fn step_in(slots: &[u64], n: Node, key: u64) -> Step
+fn step_in(pools: Pools, n: Node, key: u64) -> Step
     requires key_lt_key_bound { key < key_bound }
     requires in_range { InRange n.model }
-    requires l_bound { n.start + n.model.l ≤ slots_in slots.now }
-    ensures { result ≡ step_good slots.now n key }
+    requires l_bound { n.start + n.model.l ≤ slots_in pools.slots.now }
+    ensures { result ≡ step_good pools.entry.slots.now n key }
 {
     let m = n.model;
     let j = model::slot_of(m, key) as usize;
     let q = n.start + j;
+    let slots = pools.slots;
     if slots[q * Node::SLOT_WORDS] == Slot::UNIT + key {
         return Step::Stop(End::Key(q, key));
     }
-    match pool::slot_at(slots, n, j) {
+    match pools.slot_at(n, j) {
         Ok(Slot::Null) => Step::Stop(End::Empty(q)),
         Ok(Slot::Data(k)) => Step::Stop(End::Key(q, k)),
         Ok(Slot::Child(c)) => Step::Down(c),
@@ -148,26 +150,26 @@ fn step_in(slots: &[u64], n: Node, key: u64) -> Step
 }
 
 // One node of a walk.
-pub fn step_at(nodes: &[u64], slots: &[u64], used: &[u64], r: usize, key: u64) -> Step
+pub fn step_at(pools: Pools, r: usize, key: u64) -> Step
     requires { key < key_bound }
-    ensures { result ≡ step_of (mem nodes.now slots.now used.now) r key }
+    ensures { result ≡ step_of (memory_of pools.entry) r key }
 {
-    match pool::node_at(nodes, slots, used, r) {
-        Ok(n) => step_in(slots, n, key),
+    match pools.node_at(r) {
+        Ok(n) => step_in(pools, n, key),
         Err(rule) => Step::Stop(End::Damage(rule)),
     }
 }
 
 // From the root along a key's slots to its end, counting the nodes.
-pub fn follow(nodes: &[u64], slots: &[u64], used: &[u64], root: usize, key: u64) -> Followed
+pub fn follow(pools: Pools, root: usize, key: u64) -> Followed
     requires { key < key_bound }
-    ensures { result ≡ follow_of (mem nodes.now slots.now used.now) root key }
+    ensures { result ≡ follow_of (memory_of pools.entry) root key }
 {
     let mut r = root;
     let mut visits = 0;
     while visits < Path::LONGEST {
         visits += 1;
-        match step_at(nodes, slots, used, r, key) {
+        match step_at(pools, r, key) {
             Step::Down(c) => {
                 r = c;
             }
@@ -184,9 +186,9 @@ pub fn follow(nodes: &[u64], slots: &[u64], used: &[u64], root: usize, key: u64)
 
 // The same with the nodes on the way, for the call that raises their counters. It does not call step_at: a function with one caller is
 // put in its place, and a lookup is the shorter for it.
-pub fn trace(nodes: &[u64], slots: &[u64], used: &[u64], root: usize, key: u64) -> Traced
+pub fn trace(pools: Pools, root: usize, key: u64) -> Traced
     requires { key < key_bound }
-    ensures { result ≡ trace_of (mem nodes.now slots.now used.now) root key }
+    ensures { result ≡ trace_of (memory_of pools.entry) root key }
 {
     let mut path = Path::new();
     let mut r = root;
@@ -194,7 +196,7 @@ pub fn trace(nodes: &[u64], slots: &[u64], used: &[u64], root: usize, key: u64) 
         let at = path.len;
         path.nodes[at] = r;
         path.len = at + 1;
-        match pool::node_at(nodes, slots, used, r) {
+        match pools.node_at(r) {
             Err(rule) => {
                 return Traced {
                     end: End::Damage(rule),
@@ -202,7 +204,7 @@ pub fn trace(nodes: &[u64], slots: &[u64], used: &[u64], root: usize, key: u64) 
                 };
             }
             Ok(n) => {
-                match step_in(slots, n, key) {
+                match step_in(pools, n, key) {
                     Step::Down(c) => {
                         r = c;
                     }

@@ -25,7 +25,7 @@ returns-then-v-u c = band-reversed _ _ _ _ _ _ (sym c.fits.ensures ∙ c.if-not-
 
 pub write-end-requires : goal.write-end-requires
 write-end-requires c =
-    let f = counted_fits _ _ _ _ _ (sym c.in_ok-listed.was ∙ c.count.ensures) in
+    let f = counted_fits _ _ _ _ _ (sym c.in_ok-listed.was ∙ rw c.records.ensures at c.count.ensures) in
     let low = c.if-u-ge-BOUND.false in
     let high = c.if-v-ge-BOUND.false in
     let same = c.if-keys-payloads.false in record { span_fits = (omega (arith, low, high), omega (arith, low, high)); above_lt_longest_path = omega arith; count_bound = omega (arith, f); r_in_bounds = listing-within _ _ _ _ _ _ (omega (arith, f)); payloads_len = omega (arith, same) }
@@ -33,10 +33,10 @@ write-end-requires c =
 pub returns : goal.returns
 unfolding band_items
 returns c =
-    band-done _ _ _ _ _ _ (sym c.fits.ensures ∙ c.if-not-fits.false) c.if-keys-payloads.false c.if-u-ge-BOUND.false c.if-v-ge-BOUND.false c.if-v-u.false _ (sym c.in_ok-listed.was ∙ c.count.ensures) _ _ c.write-end.ensures.keys_after c.write-end.ensures.payloads_after
+    band-done _ _ _ _ _ _ (sym c.fits.ensures ∙ c.if-not-fits.false) c.if-keys-payloads.false c.if-u-ge-BOUND.false c.if-v-ge-BOUND.false c.if-v-u.false _ (sym c.in_ok-listed.was ∙ rw c.records.ensures at c.count.ensures) _ _ (rw c.records.ensures at c.write-end.ensures.keys_after) (rw c.records.ensures at c.write-end.ensures.payloads_after)
 
 pub returns-in_err-listed : goal.returns-in_err-listed
 unfolding band_items
 returns-in_err-listed c =
     let p = err_from_is_err_and c.from_residual.result c.from_residual.ensures.1 in
-    rw (p.1, p.2) (band-damage _ _ _ _ _ _ (sym c.fits.ensures ∙ c.if-not-fits.false) c.if-keys-payloads.false c.if-u-ge-BOUND.false c.if-v-ge-BOUND.false c.if-v-u.false _ (sym c.in_err-listed.was ∙ c.count.ensures))
+    rw (p.1, p.2) (band-damage _ _ _ _ _ _ (sym c.fits.ensures ∙ c.if-not-fits.false) c.if-keys-payloads.false c.if-u-ge-BOUND.false c.if-v-ge-BOUND.false c.if-v-u.false _ (sym c.in_err-listed.was ∙ rw c.records.ensures at c.count.ensures))

@@ -4,10 +4,10 @@ use Rattle.walk.proofs.Siftings.{enters_none, enters_plain, enters_marked}
 use Rattle.walk.proofs.reading.may_enter.Goals as goal
 
 pub returns-then-rules-lt1 : goal.returns-then-rules-lt1
-returns-then-rules-lt1 c = λ ss. enters_none _ _ _ c.if-rules-lt1.true
+returns-then-rules-lt1 c = enters_none _ _ _ c.if-rules-lt1.true
 
 pub returns-then-not-rules : goal.returns-then-not-rules
-returns-then-not-rules c = λ ss. enters_plain _ _ _ c.if-rules-lt1.false (not-true _ c.if-not-rules.true)
+returns-then-not-rules c = enters_plain _ _ _ c.if-rules-lt1.false (not-true _ c.if-not-rules.true)
 
 pub returns : goal.returns
-returns c = λ ss. enters_marked _ _ _ c.if-rules-lt1.false (not-false _ c.if-not-rules.false) _ c.is_full_run.ensures
+returns c = enters_marked _ _ _ c.if-rules-lt1.false (not-false _ c.if-not-rules.false) _ (rw c.records.ensures at c.is_full_run.ensures)

@@ -1,11 +1,11 @@
--- `walk::reading::meet` meets its contract, way by way (proofs/Readings). Assumes nothing.
+-- `walk::reading::Reading::meet` meets its contract, way by way (proofs/Readings). Assumes nothing.
 use Rattle.std.specs.Prelude.{Ok}
 use mathlib.Core.Path.{◌≡◌, sym, ◌∙◌}
 use native.Mathlib.Omega.{arith}
 use Rattle.pool.proofs.Nodes.{good-node}
 use Rattle.pool.specs.declared.Slot.TheVariants.{Null}
 use Rattle.walk.proofs.Readings.{slot-inside, not_null, meets_element, meets_broken-slot}
-use Rattle.walk.proofs.reading.meet.Goals as goal
+use Rattle.walk.proofs.reading.Reading.meet.Goals as goal
 
 pub slot_at-requires : goal.slot_at-requires
 slot_at-requires c =

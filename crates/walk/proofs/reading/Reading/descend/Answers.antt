@@ -1,9 +1,9 @@
--- `walk::reading::descend` meets its contract, way by way (proofs/Readings). Assumes nothing.
+-- `walk::reading::Reading::descend` meets its contract, way by way (proofs/Readings). Assumes nothing.
 use mathlib.Core.Path.{sym}
 use native.Mathlib.Omega.{arith}
 use Rattle.pool.proofs.Nodes.{good-node}
 use Rattle.walk.proofs.Readings.{meets_broken-child, meets_deep-child, meets_child}
-use Rattle.walk.proofs.reading.descend.Goals as goal
+use Rattle.walk.proofs.reading.Reading.descend.Goals as goal
 
 pub returns-then-above-depth-ge-LONGEST : goal.returns-then-above-depth-ge-LONGEST
 returns-then-above-depth-ge-LONGEST c =

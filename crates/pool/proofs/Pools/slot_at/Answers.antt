@@ -1,8 +1,8 @@
--- `pool::slot_at` meets its contract: each way out is what the slot's word says by its kind (proofs/Slots). Assumes nothing.
+-- `pool::Pools::slot_at` meets its contract: each way out is what the slot's word says by its kind (proofs/Slots). Assumes nothing.
 use mathlib.Core.Path.{sym, ◌∙◌}
 use Rattle.pool.specs.Reading.{slot_at}
 use Rattle.pool.proofs.Slots.{says-null, says-data, says_misplaced, says-child, says-unknown}
-use Rattle.pool.proofs.slot_at.Goals as goal
+use Rattle.pool.proofs.Pools.slot_at.Goals as goal
 
 pub returns-then-kind-eq-NULL : goal.returns-then-kind-eq-NULL
 unfolding slot_at

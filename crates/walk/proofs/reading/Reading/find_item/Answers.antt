@@ -1,4 +1,4 @@
--- `walk::reading::find_item` meets its contract. The loop's invariant: the items of what is left from here are those of what was left
+-- `walk::reading::Reading::find_item` meets its contract. The loop's invariant: the items of what is left from here are those of what was left
 -- where it began (proofs/Siftings). The measure is how many nodes may still be entered. Assumes nothing.
 use mathlib.Core.List.{[]}
 use mathlib.Core.Path.{◌≡◌, refl, sym, ap, ◌∙◌}
@@ -7,7 +7,7 @@ use native.Mathlib.Omega.{arith}
 use Rattle.walk.specs.declared.Event.TheVariants.{End}
 use Rattle.walk.specs.declared.Rules.{Rules}
 use Rattle.walk.proofs.Siftings.{enters, enters_some, enter_stands, enter_fits, element_key, finds_from, finds_unentered, finds_unheld, finds_held, finds_damage, finds_end}
-use Rattle.walk.proofs.reading.find_item.Goals as goal
+use Rattle.walk.proofs.reading.Reading.find_item.Goals as goal
 
 pub loop-n-init : goal.loop-n-init
 loop-n-init c = (c.requires.stands, ((refl, refl), refl))
@@ -17,10 +17,10 @@ may_enter-requires c = omega (arith, enter_fits _ _ _ _ _ _ _ c.in-Enter.is c.lo
 
 pub returns-then-not-may_enter : goal.returns-then-not-may_enter
 returns-then-not-may_enter c =
-    finds_from c.loop-n.invariant.1.1 (finds_unentered _ _ _ _ _ _ _ _ _ _ c.in-Enter.is (sym (c.may_enter.ensures _) ∙ c.if-not-may_enter.true))
+    finds_from c.loop-n.invariant.1.1 (finds_unentered _ _ _ _ _ _ _ _ _ _ c.in-Enter.is (sym c.may_enter.ensures ∙ c.if-not-may_enter.true))
 
 pub after_node-left-requires : goal.after_node-left-requires
-after_node-left-requires c = enters_some _ _ _ (sym (c.may_enter.ensures []) ∙ c.if-not-may_enter.false)
+after_node-left-requires c = enters_some _ _ _ (sym c.may_enter.ensures ∙ c.if-not-may_enter.false)
 
 pub next-moved-requires : goal.next-moved-requires
 next-moved-requires c =
@@ -29,7 +29,7 @@ next-moved-requires c =
 
 pub loop-n-smaller : goal.loop-n-smaller
 loop-n-smaller c =
-    let s : 1 ≤ c.loop-n.left.nodes = enters_some _ _ _ (sym (c.may_enter.ensures []) ∙ c.if-not-may_enter.false) in
+    let s : 1 ≤ c.loop-n.left.nodes = enters_some _ _ _ (sym c.may_enter.ensures ∙ c.if-not-may_enter.false) in
     omega (arith, ap (λ (x : Rules). x.nodes) c.after_node-left.ensures)
 
 pub loop-n-preserved : goal.loop-n-preserved
@@ -38,7 +38,7 @@ loop-n-preserved c =
       c.next-moved.ensures.stands,
       (
         (k.records ∙ c.loop-n.invariant.1.0.0, k.places ∙ c.loop-n.invariant.1.0.1),
-        enters _ _ _ _ _ _ _ _ c.in-Enter.is (sym (c.may_enter.ensures _) ∙ c.if-not-may_enter.false) c.after_node-left.ensures c.next-moved.ensures.tells ∙ c.loop-n.invariant.1.1,
+        enters _ _ _ _ _ _ _ _ c.in-Enter.is (sym c.may_enter.ensures ∙ c.if-not-may_enter.false) c.after_node-left.ensures c.next-moved.ensures.tells ∙ c.loop-n.invariant.1.1,
       ),
     )
 

@@ -1,11 +1,11 @@
--- `pool::node_at` meets its contract: each way out is a way through the rules of reading a record (proofs/Nodes). Assumes
+-- `pool::Pools::node_at` meets its contract: each way out is a way through the rules of reading a record (proofs/Nodes). Assumes
 -- nothing.
 use mathlib.Core.Path.{sym, ◌∙◌}
 use native.Mathlib.Omega.{arith}
 use Rattle.model.proofs.Slots.{passes_range}
 use Rattle.pool.specs.Reading.{node_in}
 use Rattle.pool.proofs.Nodes.{reads_outside, reads_unmarked, reads-run_outside, reads_unfit, reads-good}
-use Rattle.pool.proofs.node_at.Goals as goal
+use Rattle.pool.proofs.Pools.node_at.Goals as goal
 
 pub returns-then-nodes-r : goal.returns-then-nodes-r
 returns-then-nodes-r c = sym (reads_outside _ _ (omega arith))

@@ -1,10 +1,10 @@
--- `walk::reading::next` meets its contract. The loop goes up from node to node; its invariant: what is left from here is what was
+-- `walk::reading::Reading::next` meets its contract. The loop goes up from node to node; its invariant: what is left from here is what was
 -- left where the step began (proofs/Readings). The measure is the depth. Assumes nothing.
 use mathlib.Core.Path.{refl, sym, ◌∙◌}
 use native.Mathlib.Omega.{arith}
 use Rattle.pool.proofs.Nodes.{good-node}
 use Rattle.walk.proofs.Readings.{slots-inside, moves_from, skipped, goes_up, meets_end, meets_broken-above}
-use Rattle.walk.proofs.reading.next.Goals as goal
+use Rattle.walk.proofs.reading.Reading.next.Goals as goal
 
 pub loop-n-init : goal.loop-n-init
 loop-n-init c = (c.requires.standing, ((refl, refl), refl))

@@ -1,7 +1,7 @@
--- `walk::reading::next_item` meets its contract: one step, and from its event on (proofs/Siftings). Assumes nothing.
+-- `walk::reading::Reading::next_item` meets its contract: one step, and from its event on (proofs/Siftings). Assumes nothing.
 use native.Mathlib.Omega.{arith}
 use Rattle.walk.proofs.Siftings.{finds_of}
-use Rattle.walk.proofs.reading.next_item.Goals as goal
+use Rattle.walk.proofs.reading.Reading.next_item.Goals as goal
 
 pub find_item-requires : goal.find_item-requires
 find_item-requires c =

@@ -1,8 +1,8 @@
--- `walk::reading::start` meets its contract, way by way (proofs/Readings). Assumes nothing.
+-- `walk::reading::Reading::start` meets its contract, way by way (proofs/Readings). Assumes nothing.
 use mathlib.Core.Path.{sym}
 use Rattle.pool.proofs.Nodes.{good-node}
 use Rattle.walk.proofs.Readings.{starts_good, starts_broken}
-use Rattle.walk.proofs.reading.start.Goals as goal
+use Rattle.walk.proofs.reading.Reading.start.Goals as goal
 
 pub first_in-at-requires : goal.first_in-at-requires
 first_in-at-requires c =
