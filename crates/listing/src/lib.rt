@@ -49,18 +49,18 @@ fn inside(u: u64, v: u64, k: u64) -> bool
 
 // From an item on to the next between u and v.
 fn to_listed(
-    reading: Reading,
+    reading: &Reading,
     u: u64,
     v: u64,
     from: Next,
     records: &mut [usize],
     places: &mut [usize],
 ) -> Next
-    requires span_fits { SpanFits reading.span }
-    requires holds { Holds reading.span (memory_of reading.pools) reading.above from.item from.cursor }
+    requires span_fits { SpanFits reading.now.span }
+    requires holds { Holds reading.now.span (memory_of reading.now.pools) reading.now.above from.item from.cursor }
     requires longest_path_in_bounds { (longest_path ≤ length records.old) × (longest_path ≤ length places.old) }
-    ensures { Lands reading.entry.span (memory_of reading.entry.pools) reading.entry.above u v
-        (left reading.entry.span (memory_of reading.entry.pools) reading.entry.above from records.old places.old)
+    ensures { Lands reading.now.span (memory_of reading.now.pools) reading.now.above u v
+        (left reading.now.span (memory_of reading.now.pools) reading.now.above from records.old places.old)
         result records.new places.new }
 {
     let mut next = from;
@@ -87,7 +87,7 @@ fn to_listed(
 
 // The first element between u and v of the tree below record r, whose path has `above` nodes before it; and the next after an element.
 fn first_listed(
-    reading: Reading,
+    reading: &Reading,
     r: usize,
     rules: Rules,
     u: u64,
@@ -95,12 +95,12 @@ fn first_listed(
     records: &mut [usize],
     places: &mut [usize],
 ) -> Next
-    requires span_fits { SpanFits reading.span }
-    requires above_lt_longest_path { reading.above < longest_path }
+    requires span_fits { SpanFits reading.now.span }
+    requires above_lt_longest_path { reading.now.above < longest_path }
     requires longest_path_in_bounds { (longest_path ≤ length records.old) × (longest_path ≤ length places.old) }
-    ensures { Lands reading.entry.span (memory_of reading.entry.pools) reading.entry.above u v
-        (items (memory_of reading.entry.pools) rules
-        (events_of reading.entry.span (memory_of reading.entry.pools) reading.entry.above r))
+    ensures { Lands reading.now.span (memory_of reading.now.pools) reading.now.above u v
+        (items (memory_of reading.now.pools) rules
+        (events_of reading.now.span (memory_of reading.now.pools) reading.now.above r))
         result records.new places.new }
 {
     let first = reading.first_item(r, rules, records, places);
@@ -108,19 +108,19 @@ fn first_listed(
 }
 
 fn next_listed(
-    reading: Reading,
+    reading: &Reading,
     u: u64,
     v: u64,
     from: Next,
     records: &mut [usize],
     places: &mut [usize],
 ) -> Next
-    requires span_fits { SpanFits reading.span }
-    requires standing { Standing reading.span (memory_of reading.pools) reading.above from.cursor }
+    requires span_fits { SpanFits reading.now.span }
+    requires standing { Standing reading.now.span (memory_of reading.now.pools) reading.now.above from.cursor }
     requires longest_path_in_bounds { (longest_path ≤ length records.old) × (longest_path ≤ length places.old) }
-    ensures { Lands reading.entry.span (memory_of reading.entry.pools) reading.entry.above u v
-        (items (memory_of reading.entry.pools) from.rules
-        (remains reading.entry.span (memory_of reading.entry.pools) (below reading.entry.above from.cursor) from.cursor
+    ensures { Lands reading.now.span (memory_of reading.now.pools) reading.now.above u v
+        (items (memory_of reading.now.pools) from.rules
+        (remains reading.now.span (memory_of reading.now.pools) (below reading.now.above from.cursor) from.cursor
         records.old places.old)) result records.new places.new }
 {
     let cursor = from.cursor;
@@ -131,17 +131,17 @@ fn next_listed(
 
 // The first reading, which writes nothing: up to the first element beyond the room.
 pub fn count(
-    reading: Reading,
+    reading: &Reading,
     r: usize,
     rules: Rules,
     u: u64,
     v: u64,
     room: usize,
 ) -> Result<Listed, Refusal>
-    requires span_fits { SpanFits reading.span }
-    requires above_lt_longest_path { reading.above < longest_path }
-    ensures { result ≡ count_from 0 (listing u v room (items (memory_of reading.entry.pools) rules
-        (events_of reading.entry.span (memory_of reading.entry.pools) reading.entry.above r))) }
+    requires span_fits { SpanFits reading.now.span }
+    requires above_lt_longest_path { reading.now.above < longest_path }
+    ensures { result ≡ count_from 0 (listing u v room (items (memory_of reading.now.pools) rules
+        (events_of reading.now.span (memory_of reading.now.pools) reading.now.above r))) }
 {
     let mut records = [0usize; Path::LONGEST];
     let mut places = [0usize; Path::LONGEST];
@@ -169,7 +169,7 @@ pub fn count(
 
 // The second reading: so many elements into the output, from place `at` on; the place after the last.
 pub fn write(
-    reading: Reading,
+    reading: &Reading,
     r: usize,
     rules: Rules,
     u: u64,
@@ -179,20 +179,20 @@ pub fn write(
     payloads: &mut [u64],
     at: usize,
 ) -> usize
-    requires span_fits { SpanFits reading.span }
-    requires above_lt_longest_path { reading.above < longest_path }
+    requires span_fits { SpanFits reading.now.span }
+    requires above_lt_longest_path { reading.now.above < longest_path }
     requires count_bound { at + count < 2 ^ 63 }
-    requires r_in_bounds { at + length (listing u v count (items (memory_of reading.pools) rules (events_of reading.span (memory_of reading.pools) reading.above r))).keys ≤ length keys.old }
+    requires r_in_bounds { at + length (listing u v count (items (memory_of reading.now.pools) rules (events_of reading.now.span (memory_of reading.now.pools) reading.now.above r))).keys ≤ length keys.old }
     requires payloads_len { length payloads.old ≡ length keys.old }
-    ensures value { result ≡ at + length (listing u v count (items (memory_of reading.entry.pools) rules
-        (events_of reading.entry.span (memory_of reading.entry.pools) reading.entry.above r))).keys }
+    ensures value { result ≡ at + length (listing u v count (items (memory_of reading.now.pools) rules
+        (events_of reading.now.span (memory_of reading.now.pools) reading.now.above r))).keys }
     ensures keys_after { keys.new
-        ≡ sets keys.old at (listing u v count (items (memory_of reading.entry.pools) rules
-        (events_of reading.entry.span (memory_of reading.entry.pools) reading.entry.above r))).keys }
+        ≡ sets keys.old at (listing u v count (items (memory_of reading.now.pools) rules
+        (events_of reading.now.span (memory_of reading.now.pools) reading.now.above r))).keys }
     ensures payloads_after { payloads.new
-        ≡ sets payloads.old at (map (λ (q : ℕ). get_or reading.entry.pools.slots.now (payload_word q) 0)
-        (listing u v count (items (memory_of reading.entry.pools) rules
-        (events_of reading.entry.span (memory_of reading.entry.pools) reading.entry.above r))).places) }
+        ≡ sets payloads.old at (map (λ (q : ℕ). get_or reading.now.pools.slots.now (payload_word q) 0)
+        (listing u v count (items (memory_of reading.now.pools) rules
+        (events_of reading.now.span (memory_of reading.now.pools) reading.now.above r))).places) }
 {
     let mut records = [0usize; Path::LONGEST];
     let mut places = [0usize; Path::LONGEST];

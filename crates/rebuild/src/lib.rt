@@ -44,7 +44,7 @@ pub fn is_sound(capacity: usize, key: u64, above: usize, top: usize, pools: Pool
         span: Span::Whole,
         above,
     };
-    let counted = listing::count(reading, top, rules, 0, Key::BOUND - 1, capacity);
+    let counted = listing::count(&reading, top, rules, 0, Key::BOUND - 1, capacity);
     counted.is_ok()
 }
 
@@ -69,11 +69,11 @@ fn gather(
         span: Span::Whole,
         above,
     };
-    let lower = listing::write(reading, top, rules, 0, key, capacity, keys, payloads, 0);
+    let lower = listing::write(&reading, top, rules, 0, key, capacity, keys, payloads, 0);
     keys[lower] = key;
     payloads[lower] = payload;
     listing::write(
-        reading,
+        &reading,
         top,
         rules,
         key,

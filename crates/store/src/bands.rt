@@ -52,9 +52,9 @@ pub fn band(
         rebuild: false,
         fresh: 0,
     };
-    let listed = listing::count(reading, h.root, rules, u, v, keys.len())?;
+    let listed = listing::count(&reading, h.root, rules, u, v, keys.len())?;
     let _end = listing::write(
-        reading,
+        &reading,
         h.root,
         rules,
         u,

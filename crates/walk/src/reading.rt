@@ -64,7 +64,7 @@ fn skip_null(slots: &[u64], start: usize, at: usize, end: usize) -> usize
 
 // May one node more be entered: in a rebuild its run has to be wholly marked too.
 fn may_enter(pools: Pools, rules: Rules, n: Node) -> bool
-    requires { n.start + n.model.l < 2 ^ 62 }
+    requires { n.start + n.model.l ≤ slots_in pools.slots.now }
     ensures { result ≡ may_enter (memory_of pools.entry) rules n }
 {
     if rules.nodes < 1 {
@@ -118,11 +118,11 @@ fn after_key(rules: Rules, k: u64) -> Rules
 
 impl<'a> Reading<'a> {
     // A reading of the tree below record r, whose path has `above` nodes before it: its first event.
-    pub fn start(self, r: usize) -> Moved
-        requires span_fits { SpanFits self.span }
-        requires above_lt_longest_path { self.above < longest_path }
-        ensures { (rs js : List ℕ) → Moves self.entry.span (memory_of self.entry.pools) self.entry.above
-            (events_of self.entry.span (memory_of self.entry.pools) self.entry.above r) result rs js }
+    pub fn start(&self, r: usize) -> Moved
+        requires span_fits { SpanFits self.now.span }
+        requires above_lt_longest_path { self.now.above < longest_path }
+        ensures { (rs js : List ℕ) → Moves self.now.span (memory_of self.now.pools) self.now.above
+            (events_of self.now.span (memory_of self.now.pools) self.now.above r) result rs js }
     {
         match self.pools.node_at(r) {
             Ok(n) => {
@@ -157,14 +157,14 @@ impl<'a> Reading<'a> {
     }
 
     // A NODE slot, whose child is r: down to the child if its record is good and the path has room for it.
-    fn descend(self, c: Cursor, r: usize, records: &mut [usize], places: &mut [usize]) -> Moved
-        requires span_fits { SpanFits self.span }
-        requires standing { Standing self.span (memory_of self.pools) self.above c }
+    fn descend(&self, c: Cursor, r: usize, records: &mut [usize], places: &mut [usize]) -> Moved
+        requires span_fits { SpanFits self.now.span }
+        requires standing { Standing self.now.span (memory_of self.now.pools) self.now.above c }
         requires at_lt_end { c.at < c.end }
-        requires at_value { slot_at self.pools.slots.now c.node c.at ≡ Ok (Slot.Child r) }
+        requires at_value { slot_at self.now.pools.slots.now c.node c.at ≡ Ok (Slot.Child r) }
         requires longest_path_in_bounds { (longest_path ≤ length records.old) × (longest_path ≤ length places.old) }
-        ensures { Moves self.entry.span (memory_of self.entry.pools) self.entry.above
-            (remains self.entry.span (memory_of self.entry.pools) (below self.entry.above c) c records.old places.old)
+        ensures { Moves self.now.span (memory_of self.now.pools) self.now.above
+            (remains self.now.span (memory_of self.now.pools) (below self.now.above c) c records.old places.old)
             result records.new places.new }
     {
         let slot = c.at + 1;
@@ -236,12 +236,12 @@ impl<'a> Reading<'a> {
     }
 
     // One step: the next event, from the cursor on. A node that is done leads up to the one above it.
-    pub fn next(self, from: Cursor, records: &mut [usize], places: &mut [usize]) -> Moved
-        requires span_fits { SpanFits self.span }
-        requires standing { Standing self.span (memory_of self.pools) self.above from }
+    pub fn next(&self, from: Cursor, records: &mut [usize], places: &mut [usize]) -> Moved
+        requires span_fits { SpanFits self.now.span }
+        requires standing { Standing self.now.span (memory_of self.now.pools) self.now.above from }
         requires longest_path_in_bounds { (longest_path ≤ length records.old) × (longest_path ≤ length places.old) }
-        ensures { Moves self.entry.span (memory_of self.entry.pools) self.entry.above
-            (remains self.entry.span (memory_of self.entry.pools) (below self.entry.above from) from records.old places.old)
+        ensures { Moves self.now.span (memory_of self.now.pools) self.now.above
+            (remains self.now.span (memory_of self.now.pools) (below self.now.above from) from records.old places.old)
             result records.new places.new }
     {
         let mut c = from;
@@ -251,7 +251,7 @@ impl<'a> Reading<'a> {
             let at = skip_null(self.pools.slots, n.start, c.at, end);
             if at < end {
                 c.at = at;
-                return self.meet(c, records, places);
+                return (*self).meet(c, records, places);
             }
             if c.depth < 1 {
                 return Moved {
@@ -291,17 +291,17 @@ impl<'a> Reading<'a> {
 
     // From an event on to the next element, a broken rule or the end. Each node entered leaves one less to enter.
     fn find_item(
-        self,
+        &self,
         from: Moved,
         rules: Rules,
         records: &mut [usize],
         places: &mut [usize],
     ) -> Next
-        requires span_fits { SpanFits self.span }
-        requires stands { Stands self.span (memory_of self.pools) self.above from.event from.cursor }
+        requires span_fits { SpanFits self.now.span }
+        requires stands { Stands self.now.span (memory_of self.now.pools) self.now.above from.event from.cursor }
         requires longest_path_in_bounds { (longest_path ≤ length records.old) × (longest_path ≤ length places.old) }
-        ensures { Finds self.entry.span (memory_of self.entry.pools) self.entry.above rules
-            (told from.event (remains self.entry.span (memory_of self.entry.pools) (below self.entry.above from.cursor) from.cursor
+        ensures { Finds self.now.span (memory_of self.now.pools) self.now.above rules
+            (told from.event (remains self.now.span (memory_of self.now.pools) (below self.now.above from.cursor) from.cursor
             records.old places.old)) result records.new places.new }
     {
         let mut moved = from;
@@ -356,17 +356,17 @@ impl<'a> Reading<'a> {
 
     // The first item of a reading of the tree below record r, whose path has `above` nodes before it.
     pub fn first_item(
-        self,
+        &self,
         r: usize,
         rules: Rules,
         records: &mut [usize],
         places: &mut [usize],
     ) -> Next
-        requires span_fits { SpanFits self.span }
-        requires above_lt_longest_path { self.above < longest_path }
+        requires span_fits { SpanFits self.now.span }
+        requires above_lt_longest_path { self.now.above < longest_path }
         requires longest_path_in_bounds { (longest_path ≤ length records.old) × (longest_path ≤ length places.old) }
-        ensures { Finds self.entry.span (memory_of self.entry.pools) self.entry.above rules
-            (events_of self.entry.span (memory_of self.entry.pools) self.entry.above r) result records.new places.new }
+        ensures { Finds self.now.span (memory_of self.now.pools) self.now.above rules
+            (events_of self.now.span (memory_of self.now.pools) self.now.above r) result records.new places.new }
     {
         let first = self.start(r);
         self.find_item(first, rules, records, places)
@@ -374,17 +374,17 @@ impl<'a> Reading<'a> {
 
     // The next item, from the cursor on.
     pub fn next_item(
-        self,
+        &self,
         from: Cursor,
         rules: Rules,
         records: &mut [usize],
         places: &mut [usize],
     ) -> Next
-        requires span_fits { SpanFits self.span }
-        requires standing { Standing self.span (memory_of self.pools) self.above from }
+        requires span_fits { SpanFits self.now.span }
+        requires standing { Standing self.now.span (memory_of self.now.pools) self.now.above from }
         requires longest_path_in_bounds { (longest_path ≤ length records.old) × (longest_path ≤ length places.old) }
-        ensures { Finds self.entry.span (memory_of self.entry.pools) self.entry.above rules
-            (remains self.entry.span (memory_of self.entry.pools) (below self.entry.above from) from records.old places.old)
+        ensures { Finds self.now.span (memory_of self.now.pools) self.now.above rules
+            (remains self.now.span (memory_of self.now.pools) (below self.now.above from) from records.old places.old)
             result records.new places.new }
     {
         let first = self.next(from, records, places);

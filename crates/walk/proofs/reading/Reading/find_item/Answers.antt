@@ -13,7 +13,7 @@ pub loop-n-init : goal.loop-n-init
 loop-n-init c = (c.requires.stands, ((refl, refl), refl))
 
 pub may_enter-requires : goal.may_enter-requires
-may_enter-requires c = omega (arith, enter_fits _ _ _ _ _ _ _ c.in-Enter.is c.loop-n.invariant.0, c.well_formed.1.0)
+may_enter-requires c = enter_fits _ _ _ _ _ _ _ c.in-Enter.is c.loop-n.invariant.0
 
 pub returns-then-not-may_enter : goal.returns-then-not-may_enter
 returns-then-not-may_enter c =
