@@ -47,6 +47,7 @@ pub fn sizes(keys: &[u64], list: &mut [u64], at: usize, fuel: usize) -> Needs
     let mut slots = m.l as usize;
     let mut below = 0usize;
     let mut a = 0;
+    // A turn takes a whole run of keys, so no range counts the turns.
     while a < keys.len() {
         let b = run_end(keys, a, m);
         if 1 < b - a {

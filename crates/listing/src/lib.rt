@@ -64,6 +64,7 @@ fn to_listed(
         result records.new places.new }
 {
     let mut next = from;
+    // Items are read until one lies between: no range counts them.
     loop {
         let item = next.item;
         match item {
@@ -147,6 +148,7 @@ pub fn count(
     let mut places = [0usize; Path::LONGEST];
     let mut next = first_listed(reading, r, rules, u, v, &mut records, &mut places);
     let mut n = 0;
+    // Items are read until the reading ends or there is no room: no range counts them.
     loop {
         let item = next.item;
         match item {

@@ -12,7 +12,8 @@ use pool::{Node, Pools, Rule, Slot};
 
 pub mod reading;
 
-// Where a key's path ends: at a NULL slot, at a DATA slot with its key, or at a broken rule.
+// Where a key's path ends: at a NULL slot, at a DATA slot with its key, or at a broken rule. Damage is one of the ends and no Err, since
+// the nodes visited are told with it as well.
 #[derive(Clone, Copy, Debug, PartialEq, Eq)]
 pub enum End {
     Empty(usize),
@@ -73,7 +74,7 @@ pub enum Span {
     Whole,
 }
 
-// What a reading meets: a node, an element with its slot, a broken rule; or its end.
+// What a reading meets: a node, an element with its slot, a broken rule; or its end. Damage is met in its turn, so it is no Err.
 #[derive(Clone, Copy, Debug, PartialEq, Eq)]
 pub enum Event {
     Enter(usize, Node),
@@ -111,7 +112,7 @@ pub struct Rules {
     pub fresh: u64,
 }
 
-// What a reading under the rules meets: an element with its slot, a broken rule, or its end.
+// What a reading under the rules meets: an element with its slot, a broken rule, or its end; each caller asks for all three.
 #[derive(Clone, Copy, Debug, PartialEq, Eq)]
 pub enum Item {
     Held(usize, u64),

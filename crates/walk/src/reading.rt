@@ -245,6 +245,7 @@ impl<'a> Reading<'a> {
             result records.new places.new }
     {
         let mut c = from;
+        // A node that is done leads up to the one above it: no range counts the turns.
         loop {
             let n = c.node;
             let end = c.end;
@@ -306,6 +307,7 @@ impl<'a> Reading<'a> {
     {
         let mut moved = from;
         let mut left = rules;
+        // Events are read until an item comes of one: no range counts them.
         loop {
             let event = moved.event;
             let cursor = moved.cursor;
