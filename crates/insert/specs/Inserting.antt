@@ -73,7 +73,7 @@ pub record Fresh : Type 0 where
 abbrev pub fresh : ℕ → ℕ → ℕ → Bool → ℕ → List ℕ → Fresh
 fresh k p q c j path = record { key = k; payload = p; slot = q; conflict = c; other = j; path = path }
 
--- "Some NULL the slot becomes DATA. Some DATA with another key .. a two-key node takes the slot", which is at record c
+-- "At NULL the slot becomes DATA. At DATA with another key .. a two-key node takes the slot", which is at record c
 unfoldable pub settled : Bool → ℕ → ℕ → ℕ → ℕ → List ℕ → List ℕ
 settled conflict q k p c ss = pick conflict (put_child ss q c) (put_data ss q k p)
 
