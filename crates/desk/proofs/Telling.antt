@@ -71,13 +71,7 @@ band-bare h u v m ks ps =
 insert-answer : Insert → Answer ℕ
 insert-answer i = i.answer
 
-BareInsert : Insert → Type 0
-BareInsert i = Bare 0 i.answer
-
 module _ (h : Handle) (m : Mem) (s : Scratch) where
-  refused-insert : (x : ℕ) → Bare 0 (inserting (refused x) h m s).answer
-  refused-insert x = refused-bare 0 x
-
   tidy-bare : (f : Fresh) (i q c : ℕ) (b : Option ℕ) (n : Mem) (t : Scratch) → Bare 0 (tidy_ends h f i q c b n t).answer
   unfolding tidy_ends replaced standing
   tidy-bare f i q c (Some r) n t = done-bare 0 _
