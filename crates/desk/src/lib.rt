@@ -67,6 +67,7 @@ pub struct InsertedAnswer {
 impl From<Changing<()>> for ChangedAnswer {
     ghost from_gives = { λ c r. r ≡ pass_changing c };
 
+    #[tactic(auto, unfolding(store::specs::Calls::changed, crate::specs::Passing::pass_changing))]
     fn from(c: Changing<()>) -> Self {
         let handle = c.handle;
         match c.answer {
@@ -101,6 +102,7 @@ pub fn soorqabiye_unpack(key: u64) -> SoundingAnswer
     }
 }
 
+#[tactic(auto, unfolding(store::specs::Loading::loaded, crate::specs::Passing::pass_load))]
 pub fn soorqabiye_load(
     capacity: usize,
     keys: &[u64],
@@ -176,6 +178,7 @@ pub fn soorqabiye_delete(
     ChangedAnswer::from(delete::delete(h, key, nodes, slots, used))
 }
 
+#[tactic(auto, unfolding(store::specs::Bands::listed, crate::specs::Passing::pass_band))]
 pub fn soorqabiye_band(
     h: Handle,
     u: u64,
@@ -203,6 +206,7 @@ pub fn soorqabiye_band(
     }
 }
 
+#[tactic(auto, unfolding(insert::specs::Inserting::inserted, crate::specs::Passing::pass_insert))]
 pub fn soorqabiye_insert(
     h: Handle,
     key: u64,

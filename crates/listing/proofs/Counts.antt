@@ -36,6 +36,13 @@ count-one n q k l =
     rw e
 
 module _ (s : Span) (m : Mem) (above u v room : ℕ) where
+  -- none is counted yet
+  pub counting_first : (is : List Item) (x : Next) (rs js : List ℕ) → Lands s m above u v is x rs js
+      → Counting s m above u v room (count_from 0 (listing u v room (left s m above x rs js))) 0 x rs js
+  counting_first is x rs js l =
+      let z : room - 0 ≡ room = omega arith in
+      record { fits = omega arith; stands = l.stands; within = l.within; counts = rw z }
+
   module _ (whole : Result Listed Refusal) (n : ℕ) (x : Next) (rs js : List ℕ) (c : Counting s m above u v room whole n x rs js) where
     -- an element between u and v
     module _ (q k : ℕ) (e : x.item ≡ Held q k) where

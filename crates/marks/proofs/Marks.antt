@@ -165,6 +165,14 @@ mark_or u p =
 pub mark_stored : (u : List ℕ) (p : ℕ) → set u (p / 64) (bit_or (get_or u (p / 64) 0) (1 * 2 ^ (p % 64) % 2 ^ 64)) ≡ mark_at u p
 mark_stored u p = rw (shl_one (p % 64) (omega arith)) (mark_or u p)
 
+pub clear_stored : (u : List ℕ) (p : ℕ) → bit_at u p ≡ 1 → set u (p / 64) (get_or u (p / 64) 0 - 1 * 2 ^ (p % 64) % 2 ^ 64) ≡ clear_at u p
+unfolding clear_at
+clear_stored u p b = let e : used_at u p ≡ true = one-used u p b in rw (shl_one (p % 64) (omega arith), e)
+
+pub clear_unset : (u : List ℕ) (p : ℕ) → bit_at u p ≡ 0 → u ≡ clear_at u p
+unfolding clear_at
+clear_unset u p b = let e : used_at u p ≡ false = zero_unused u p b in rw e
+
 -- a word with its bit i taken away is known by its bits
 without_bit : (x i y : ℕ) → i < 64 → x < 2 ^ 64 → y < 2 ^ 64 → y / 2 ^ i % 2 ≡ 0 → ((j : ℕ) → (j ≡ i → ⊥) → y / 2 ^ j % 2 ≡ x / 2 ^ j % 2)
     → bit_and x (2 ^ 64 - 1 - 1 * 2 ^ i % 2 ^ 64) ≡ y
@@ -174,10 +182,10 @@ without_bit x i y l a b none others =
     (λ t. let d : j ≡ i = eqb-true _ _ t in rw d (bit_at_clear_same w64 x i l ∙ sym none))
     (λ t. bit_at_clear_other w64 x i l j h (eqb-false _ _ t) ∙ sym (others j (eqb-false _ _ t))))
 
-pub clear_stored : (u : List ℕ) (p : ℕ) → get_or u (p / 64) 0 < 2 ^ 64
+pub clear_by_and : (u : List ℕ) (p : ℕ) → get_or u (p / 64) 0 < 2 ^ 64
     → set u (p / 64) (bit_and (get_or u (p / 64) 0) (2 ^ 64 - 1 - 1 * 2 ^ (p % 64) % 2 ^ 64)) ≡ clear_at u p
 unfolding clear_at
-clear_stored u p w =
+clear_by_and u p w =
     let l : p % 64 < 64 = omega arith in
     both (used_at u p)
     (λ e.

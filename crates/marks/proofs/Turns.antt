@@ -44,9 +44,9 @@ zero_word_each u p z e q a l = let d : q / 64 ≡ p / 64 = omega arith in zero_w
 abbrev pub UsedWords : List ℕ → ℕ → ℕ → Type 0
 UsedWords u k r = (q : ℕ) → k * 64 ≤ q → q < r * 64 → used_at u q ≡ true
 
-pub used-words-next : (u : List ℕ) (k r : ℕ) → UsedWords u k r → get_or u r 0 ≡ 2 ^ 64 - 1 → UsedWords u k (r + 1)
-used-words-next u k r f e q a l =
-    ⊎_elim (λ m. let d : q / 64 ≡ r = omega arith in full-word-used u q (rw d e)) (λ m. f q a m) (le_or_lt (r * 64) q)
+pub used-words-next : (u : List ℕ) (k r w : ℕ) → UsedWords u k r → w ≡ r → get_or u w 0 ≡ 2 ^ 64 - 1 → UsedWords u k (r + 1)
+used-words-next u k r w f s e q a l =
+    ⊎_elim (λ m. let d : q / 64 ≡ w = omega arith in full-word-used u q (rw d e)) (λ m. f q a m) (le_or_lt (r * 64) q)
 
 pub full-words_each : (u : List ℕ) (p r : ℕ) → p % 64 ≡ 0 → get_or u (p / 64) 0 ≡ 2 ^ 64 - 1 → UsedWords u (p / 64 + 1) r
     → Each u p (r * 64 - p) true

@@ -2,8 +2,8 @@
 -- Assumes nothing.
 use mathlib.Core.Bool.{Bool, true}
 use mathlib.Core.List.{List, [], ◌++◌, append_assoc, append-nil}
-use mathlib.Core.Path.{◌≡◌, sym, ap, ◌∙◌}
-use Rattle.std.proofs.Common.{Some, None}
+use mathlib.Core.Path.{◌≡◌, refl, sym, ap, ◌∙◌}
+use Rattle.std.proofs.Common.{Option, Some, None}
 use Prim.Native.Nat.{ℕ, ◌+◌, ◌-◌, ◌<◌, ◌≤◌}
 use native.Mathlib.Omega.{arith}
 use lib.ListN.{length, get_or, take, drop, length-drop}
@@ -19,6 +19,11 @@ use Rattle.operations.specs.Printing.{end_line}
 use Rattle.operations.specs.Sessions.{session}
 use Rattle.operations.specs.Stepping.{State, step_of}
 use Rattle.operations.proofs.Sessions.{block_unknown, block_short, block_next, printed-more}
+
+-- a kind that is not a known one is unknown, as an arm after the known ones says it
+pub unknown-left : (k : Option Kind) → ((x : Kind) → k ≡ Some x → ⊥) → k ≡ None
+unknown-left (Some x) h = absurd (h x refl)
+unknown-left None h = refl
 
 longest : (o : Operation) → body_length o ≤ longest_body
 longest Insert = omega arith

@@ -5,13 +5,13 @@ use mathlib.Core.Logic.{◌⊎◌, inl, inr, ⊎_elim}
 use mathlib.Core.Path.{◌≡◌}
 use Prim.Native.Nat.{ℕ, zero, suc, ◌+◌, ◌*◌, ◌^◌, ◌<◌, ◌≤◌}
 use native.Mathlib.Omega.{arith}
-use lib.ListN.{length, get_or, replicate}
+use lib.ListN.{length, get_or, set, replicate}
 use lib.Seq.{length-sets}
 use Rattle.laws.proofs.Tests.{le_or_lt}
 use Rattle.pool.specs.Memory.{record_words, lo_word, w_word, l_word, start_word, elements_word, built_word, conflicts_word}
 use Rattle.pool.specs.Writing.{put_node, zero_record}
 use Rattle.pool.specs.declared.Node.{Node}
-use Rattle.pool.proofs.Sets.{Words, sets_before, sets_past, sets_within, sets_zeros, sets_words, zeros-words}
+use Rattle.pool.proofs.Sets.{Words, sets_before, sets_past, sets_within, sets_zeros, sets_words, sets_eight, zeros-words}
 
 -- the eighth word of a record, which is 0
 abbrev pub last_word : ℕ → ℕ
@@ -26,6 +26,13 @@ other-record : (q r k : ℕ) → (q ≡ r → ⊥) → k < record_words → (q *
 other-record q r k d h = ⊎_elim (λ a. inr (omega (arith, d, a))) (λ a. inl (omega (arith, a))) (le_or_lt r q)
 
 module _ (ns : List ℕ) (r : ℕ) (n : Node) (count : ℕ) where
+  -- the stores, one after the other
+  pub put_node_stores :
+      set (set (set (set (set (set (set (set ns (lo_word r) n.model.lo) (w_word r) n.model.w) (l_word r) n.model.l) (start_word r) n.start) (elements_word r) count) (built_word r) count) (conflicts_word r) 0) (last_word r) 0
+      ≡ put_node ns r n count
+  unfolding put_node
+  put_node_stores = sets_eight ns (lo_word r) _ _ _ _ _ _ _ _
+
   pub length-put_node : length (put_node ns r n count) ≡ length ns
   unfolding put_node
   length-put_node = length-sets ns (lo_word r) (words_of n count)
@@ -84,6 +91,12 @@ module _ (ns : List ℕ) (r : ℕ) (n : Node) (count : ℕ) where
     put_node_last = sets_within ns (lo_word r) (words_of n count) 7 (omega arith) (omega arith)
 
 module _ (ns : List ℕ) (r : ℕ) where
+  pub zero_record_stores :
+      set (set (set (set (set (set (set (set ns (lo_word r) 0) (w_word r) 0) (l_word r) 0) (start_word r) 0) (elements_word r) 0) (built_word r) 0) (conflicts_word r) 0) (last_word r) 0
+      ≡ zero_record ns r
+  unfolding zero_record
+  zero_record_stores = sets_eight ns (lo_word r) 0 0 0 0 0 0 0 0
+
   pub length-zero_record : length (zero_record ns r) ≡ length ns
   unfolding zero_record
   length-zero_record = length-sets ns (lo_word r) (replicate record_words 0)

@@ -2,15 +2,20 @@
 use mathlib.Core.List.{List}
 use mathlib.Core.Logic.{◌⊎◌, ⊎_elim}
 use mathlib.Core.Path.{◌≡◌}
-use Prim.Native.Nat.{ℕ, ◌+◌, ◌*◌, ◌<◌, ◌≤◌}
+use Prim.Native.Nat.{ℕ, ◌+◌, ◌-◌, ◌*◌, ◌<◌, ◌≤◌}
 use native.Mathlib.Omega.{arith}
 use lib.ListN.{length, get_or, replicate, length-replicate}
-use lib.Seq.{length-sets}
+use lib.Seq.{sets, length-sets}
 use Rattle.pool.specs.Memory.{kind_word, slot_words}
 use Rattle.pool.specs.Writing.{zero_run}
 use Rattle.pool.proofs.Sets.{Words, sets_before, sets_past, sets_zeros, sets_words, zeros-words}
 
 module _ (ss : List ℕ) (start l : ℕ) where
+  -- the words from the run's first to its last, zeroed
+  pub zero_run-start : sets ss (kind_word start) (replicate (kind_word (start + l) - kind_word start) 0) ≡ zero_run ss start l
+  unfolding zero_run
+  zero_run-start = let e : kind_word (start + l) - kind_word start ≡ l * slot_words = omega arith in rw e
+
   pub length-zero_run : length (zero_run ss start l) ≡ length ss
   unfolding zero_run
   length-zero_run = length-sets ss (kind_word start) (replicate (l * slot_words) 0)

@@ -59,6 +59,20 @@ zeros-words zero i = omega arith
 zeros-words (suc n) zero = omega arith
 zeros-words (suc n) (suc i) = zeros-words n i
 
+-- eight stores one after the other
+pub sets_eight : (l : List ℕ) (i a b c d e f g h : ℕ)
+    → set (set (set (set (set (set (set (set l i a) (i + 1) b) (i + 2) c) (i + 3) d) (i + 4) e) (i + 5) f) (i + 6) g) (i + 7) h
+    ≡ sets l i (a ∷ b ∷ c ∷ d ∷ e ∷ f ∷ g ∷ h ∷ [])
+sets_eight l i a b c d e f g h =
+    let p1 : i + 1 ≡ suc i = omega arith in
+    let p2 : i + 2 ≡ suc (suc i) = omega arith in
+    let p3 : i + 3 ≡ suc (suc (suc i)) = omega arith in
+    let p4 : i + 4 ≡ suc (suc (suc (suc i))) = omega arith in
+    let p5 : i + 5 ≡ suc (suc (suc (suc (suc i)))) = omega arith in
+    let p6 : i + 6 ≡ suc (suc (suc (suc (suc (suc i))))) = omega arith in
+    let p7 : i + 7 ≡ suc (suc (suc (suc (suc (suc (suc i)))))) = omega arith in
+    rw (p1, p2, p3, p4, p5, p6, p7)
+
 -- the k words from a on written as a part of the list
 pub part_is : (l vs ws : List ℕ) (a k n : ℕ) → k ≡ n → length ws ≡ n → a + n ≤ length l → vs ≡ ws → put_mid a k l vs ≡ sets l a ws
 part_is l vs ws a k n e f h w =

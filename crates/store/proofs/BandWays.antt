@@ -1,19 +1,21 @@
 -- Band, way by way: the refusals in their order, damage, and the output that the second reading leaves. Assumes nothing.
 use mathlib.Core.Bool.{true, false}
 use mathlib.Core.List.{List}
-use mathlib.Core.Path.{◌≡◌}
+use mathlib.Core.Path.{◌≡◌, sym}
 use Prim.Native.Nat.{ℕ, ◌<◌, ◌≤◌}
 use borrow.Author.Tests.{eq-eqb, ne_eqb, lt-ltb, le-ltb, le-leb, lt-leb}
 use lib.ListN.{length}
 use lib.Seq.{sets}
+use Rattle.laws.proofs.Tests.{both, true_not_false}
 use Rattle.laws.specs.Keys.{key_bound}
 use Rattle.listing.proofs.Counts.{counted_done, counted_damage}
 use Rattle.listing.proofs.Listings.{relisted}
 use Rattle.listing.proofs.Writes.{payloads_at}
 use Rattle.listing.specs.Listing.{listing, count_from}
 use Rattle.std.specs.Prelude.{Ok, Err}
+use Rattle.std.specs.Result.{is_err}
 use Rattle.laws.specs.declared.Refusal.{Refusal}
-use Rattle.laws.specs.declared.Refusal.TheVariants.{WrongSizes, OutOfRange, Reversed}
+use Rattle.laws.specs.declared.Refusal.TheVariants.{WrongSizes, OutOfRange, Reversed, Damage}
 use Rattle.listing.specs.declared.Listed.{Listed}
 use Rattle.pool.specs.Memory.{Mem}
 use Rattle.store.specs.Bands.{band, band_items, band_out, band_of, listed}
@@ -65,3 +67,12 @@ module _ (h : Handle) (u v : ℕ) (m : Mem) (ks ps : List ℕ) where
                 let c = counted_done (listing u v (length ks) (band_items h u v m)) x e in
                 let r = relisted u v (band_items h u v m) (length ks) in
                 rw (p, q, c.2, c.1, r.0, r.1) (rw c.0 at at_listing)
+
+-- a listing in which damage was met is refused
+pub band_damaged : (h : Handle) (u v : ℕ) (m : Mem) (ks ps : List ℕ) → handle_fits h m ≡ true → length ks ≡ length ps → u < key_bound → v < key_bound → u ≤ v
+    → is_err (count_from 0 (listing u v (length ks) (band_items h u v m))) ≡ true → band_of h u v m ks ps ≡ band (listed (Err Damage)) ks ps
+unfolding band_of band_out listed count_from
+band_damaged h u v m ks ps fits same low high order e =
+    both (listing u v (length ks) (band_items h u v m)).sound
+    (λ t. absurd (true_not_false (sym (rw t at e))))
+    (λ t. rw (fits, eq-eqb (length ks) (length ps) same, lt-ltb u key_bound low, lt-ltb v key_bound high, le-leb u v order, t))

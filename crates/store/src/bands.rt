@@ -11,6 +11,7 @@ use walk::reading::Reading;
 use walk::{Rules, Span};
 
 // The elements with u <= key <= v, in key order, as many as fit.
+#[tactic(auto, using(crate::proofs::BandWays::band_damaged), unfolding(crate::specs::Bands::band_items))]
 pub fn band(
     h: Handle,
     u: u64,

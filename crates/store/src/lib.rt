@@ -186,6 +186,7 @@ pub fn find(
 }
 
 // The payload of a key, with the nodes visited.
+#[tactic(auto, unfolding(crate::specs::Calls::looked, crate::specs::Calls::lookup_of))]
 pub fn lookup(
     h: Handle,
     key: u64,

@@ -26,4 +26,5 @@ returns-in-Broken c =
 pub returns-in-End : goal.returns-in-End
 returns-in-End c =
     let e : c.loop-slot.next.item ≡ End = cc in
-    rw c.all.ensures (counting_end _ _ _ _ _ _ _ _ _ _ _ c.loop-slot.invariant.0 e ∙ ap (count_from 0) (c.first_listed-next.ensures.lists _))
+    let told = counting_end _ _ _ _ _ _ _ _ _ _ _ c.loop-slot.invariant.0 e ∙ ap (count_from 0) (c.first_listed-next.ensures.lists _) in
+    cc

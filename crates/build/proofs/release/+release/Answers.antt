@@ -24,7 +24,7 @@ loop-j-init t c =
 pub slot_at-requires : goal.slot_at-requires
 slot_at-requires t c =
     let g = good-node (mem c.args.nodes.now c.args.slots.now c.args.used.now) c.args.r _ (sym c.node_at.ensures ∙ c.in-Ok.is) in
-    record { j_in_bounds = omega (arith, g.fits, c.loop-j.invariant.slots, c.loop-j-test.true); in_range = g.range }
+    record { j_in_bounds = omega (arith, g.fits, c.loop-j.invariant.slots); in_range = g.range }
 
 pub release-requires : goal.release-requires
 release-requires t c =
@@ -34,16 +34,16 @@ pub loop-j-preserved : goal.loop-j-preserved
 loop-j-preserved t c =
     let g = c.release in
     let e : c.slot_at.result ≡ Ok (Child c.in-Child.child) = cc in
-    left-child c.loop-j.invariant (omega (arith, c.loop-j-test.true)) _ c.slot_at.ensures _ (mem g.new.nodes g.new.slots g.new.used) e g.ensures
+    left-child c.loop-j.invariant (omega arith) _ c.slot_at.ensures _ (mem g.new.nodes g.new.slots g.new.used) e g.ensures
 
 pub loop-j-preserved-in_default-slot : goal.loop-j-preserved-in_default-slot
 loop-j-preserved-in_default-slot t c =
-    left_other c.loop-j.invariant (omega (arith, c.loop-j-test.true)) _ c.slot_at.ensures
+    left_other c.loop-j.invariant (omega arith) _ c.slot_at.ensures
     (λ k e. let f : c.in-Ok-slot_at.slot ≡ Child k = cc in c.in_default-slot.not-Child k f)
 
 pub loop-j-preserved-in_default-slot_at : goal.loop-j-preserved-in_default-slot_at
 loop-j-preserved-in_default-slot_at t c =
-    left_other c.loop-j.invariant (omega (arith, c.loop-j-test.true)) _ c.slot_at.ensures (λ k e. c.in_default-slot_at.not-Ok _ e)
+    left_other c.loop-j.invariant (omega arith) _ c.slot_at.ensures (λ k e. c.in_default-slot_at.not-Ok _ e)
 
 pub drop_node-requires : goal.drop_node-requires
 drop_node-requires t c =
@@ -54,4 +54,4 @@ drop_node-requires t c =
 pub returns : goal.returns
 returns t c =
     let d = c.drop_node in
-    ends_dropped c.args.fuel (mem c.args.nodes.now c.args.slots.now c.args.used.now) c.args.r c.if-fuel-lt1.false _ c.node_at.ensures _ _ _ (mem d.new.nodes d.new.slots d.new.used) c.in-Ok.is c.loop-j.invariant (omega (arith, c.loop-j-test.false)) d.ensures
+    ends_dropped c.args.fuel (mem c.args.nodes.now c.args.slots.now c.args.used.now) c.args.r c.if-fuel-lt1.false _ c.node_at.ensures _ _ _ (mem d.new.nodes d.new.slots d.new.used) c.in-Ok.is c.loop-j.invariant (omega arith) d.ensures

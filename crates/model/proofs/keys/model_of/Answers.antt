@@ -18,15 +18,15 @@ loop-t-init g c = (t-least _ c.requires.rising (omega arith)).positive
 
 pub is_spread-requires-clause-in_range : goal.is_spread-requires-clause-in_range
 is_spread-requires-clause-in_range g c =
-    try_in_range _ c.requires.rising (omega arith) _ c.loop-t.auto.t c.loop-t.invariant _ c.model_at-m.ensures
+    try_in_range _ c.requires.rising (omega arith) _ (omega arith) (omega arith) _ c.model_at-m.ensures
 
 pub returns-then-is_spread : goal.returns-then-is_spread
 returns-then-is_spread g c =
-    try_passes _ c.requires.rising (omega arith) _ c.loop-t.auto.t c.loop-t.invariant _ c.model_at-m.ensures _ c.is_spread.ensures c.if-is_spread.true
+    try_passes _ c.requires.rising (omega arith) _ (omega arith) (omega arith) _ c.model_at-m.ensures _ c.is_spread.ensures c.if-is_spread.true
 
 pub loop-t-preserved : goal.loop-t-preserved
 loop-t-preserved g c =
-    omega (arith, try_fails _ c.requires.rising (omega arith) _ c.loop-t.auto.t c.loop-t.invariant _ c.model_at-m.ensures _ c.is_spread.ensures c.if-is_spread.false)
+    omega (arith, try_fails _ c.requires.rising (omega arith) _ (omega arith) (omega arith) _ c.model_at-m.ensures _ c.is_spread.ensures c.if-is_spread.false)
 
 pub unreachable-requires : goal.unreachable-requires
 unreachable-requires g c =
@@ -35,5 +35,5 @@ unreachable-requires g c =
     elim c.loop-t-test.branch [
       | else-loop-t-test w ↦ omega (arith, try_within _ rising (omega arith) _ c.loop-t.auto.t c.loop-t.invariant)
       | then-loop-t-test+else-is_spread+else-t-t-end w ↦
-          omega (arith, last, try_fails _ rising (omega arith) _ c.loop-t.auto.t c.loop-t.invariant _ w.model_at-m.ensures _ w.is_spread.ensures w.if-is_spread.false)
+          omega (arith, last, try_fails _ rising (omega arith) _ (omega arith) (omega arith) _ w.model_at-m.ensures _ w.is_spread.ensures w.if-is_spread.false)
     ]
